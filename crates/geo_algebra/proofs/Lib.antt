@@ -1,0 +1,4 @@
+pub mod Integers
+pub mod AbsoluteValues
+pub mod Ring
+pub mod Identities
