@@ -1,0 +1,6 @@
+pub mod CoefficientLaws
+pub mod TableLaws
+pub mod TriangleLaws
+pub mod GridLaws
+mod ExampleUses
+mod Samples
