@@ -1,0 +1,9 @@
+pub mod Views
+pub mod Steps
+pub mod TableSteps
+pub mod Seats
+pub mod Closing
+pub mod Schedule
+pub mod Truths
+pub mod Replays
+pub mod Examples

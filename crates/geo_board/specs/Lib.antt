@@ -1,0 +1,5 @@
+pub mod Machine
+pub mod Truth
+pub mod Rule
+pub mod BoardSeats
+pub mod Replays

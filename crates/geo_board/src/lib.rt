@@ -1,0 +1,18 @@
+//! The claim board of a search: workers claim its chunks one after the other, tell each other the least failing index
+//! found so far, and wait for nobody.
+#![tactic(auto)]
+
+mod board;
+mod event;
+mod laws;
+mod replay;
+mod rule;
+mod seat;
+
+pub use event::BoardEvent;
+pub use laws::{every_schedule, truthful_entries};
+pub use replay::run_events;
+pub use seat::{Board, BoardSeat, Entry, NoMemory};
+
+#[cfg(test)]
+mod tests;
