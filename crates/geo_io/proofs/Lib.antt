@@ -1,0 +1,3 @@
+mod Cuts
+mod Growing
+mod LineRows

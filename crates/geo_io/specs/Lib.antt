@@ -1,0 +1,6 @@
+pub mod Faults
+pub mod Pieces
+pub mod Fronts
+pub mod Lines
+pub mod Memory
+pub mod OverStd

@@ -1,0 +1,24 @@
+//! Sources and sinks of bytes with counted faults, whole reading and writing, and the lines of
+//! some bytes.
+#![tactic(auto)]
+
+mod calls;
+mod ends;
+mod front;
+mod in_memory;
+mod line;
+mod over_std;
+mod streams;
+mod sure;
+mod whole;
+
+pub use ends::{Failed, LineEnd, NoMemory, SinkEnd};
+pub use in_memory::{MemSink, MemSource};
+pub use line::split_line;
+pub use over_std::{ReadSource, WriteSink};
+pub use streams::{Sink, Source};
+pub use sure::{SureSink, SureSource};
+pub use whole::{read_all, write_all};
+
+#[cfg(test)]
+mod tests;
