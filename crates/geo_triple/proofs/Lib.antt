@@ -1,0 +1,5 @@
+pub mod Triples
+pub mod Sizes
+pub mod Readings
+pub mod Divisors
+pub mod Primitives

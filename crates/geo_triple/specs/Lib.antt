@@ -1,0 +1,3 @@
+pub mod Triple
+pub mod Height
+pub mod Primitive
