@@ -1,6 +1,6 @@
 -- A name gives its bytes and its length back.
-use Rattle.std.specs.Prelude.{◌≡◌, ◌≤◌, ◌++◌, ℕ, Bool, true, length, take, drop, replicate}
-use Rattle.std.proofs.Common.{arith, sym, ap, ◌∙◌, length-append}
+use Rattle.std.specs.Prelude.{◌≡◌, ◌≤◌, true, length, take}
+use Rattle.std.proofs.Common.{arith, sym, ◌∙◌}
 use Rattle.std.proofs.lemmas.List.{length-take}
 use Rattle.geo_sketch.specs.Names.{is_name, padded}
 use Rattle.geo_sketch.specs.declared.names.Name.TheInside.{Inside}

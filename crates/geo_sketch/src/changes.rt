@@ -39,8 +39,6 @@ pub enum Refusal {
     Nothing,
     Repeat,
     View,
-    /// What this stage of the program does not build yet.
-    Unbuilt,
 }
 
 /// There was no memory.

@@ -2,12 +2,33 @@
 //! claims and what changes it, each refusal with its exact cause.
 #![tactic(auto)]
 
+mod additions;
 mod changes;
+mod claims;
+mod dependence;
+mod edits;
 mod elements;
+mod heights;
+mod laws;
+mod limits;
+mod lookups;
 mod names;
+mod plain;
+mod rebuilding;
+mod references;
+mod samples;
+mod sketches;
 mod statements;
+mod verdicts;
 
 pub use changes::{Delta, NoMemory, Refusal, Stop};
 pub use elements::{Def, Element, Kind, Setting, Spec};
+pub use laws::{
+    dual_twice, each_by_its_definition, fixed_by_what_it_depends_on, made_by_changes, others_stay,
+    plain_statements_hold, taken_back_and_done_again,
+};
 pub use names::Name;
+pub use samples::sample_value;
+pub use sketches::Sketch;
 pub use statements::{Said, Statement};
+pub use verdicts::{Past, Values, Verdict};

@@ -1,0 +1,16 @@
+//! Eight assignments at which statements are tried.
+
+ghost use Rattle.std.specs.Prelude.{◌≡◌, ◌<◌, ◌*◌};
+ghost use Rattle.geo_sketch.specs.Samples.{sample_count, sample_value};
+ghost use Rattle.geo_sketch.specs.Sketches.{number_limit};
+
+/// The value of a parameter at a sample position, from -3 to 3.
+pub fn sample_value(position: u32, parameter: u32) -> i64
+    requires position { position < sample_count }
+    requires parameter { parameter < 2 * number_limit }
+    ensures { result ≡ sample_value position parameter }
+{
+    let square = (position + 1) * parameter * parameter;
+    let sum = 31 * position + 17 * parameter + square + 5;
+    i64::from(sum % 101 % 7) - 3
+}
