@@ -1,0 +1,3 @@
+pub mod LiveElements
+pub mod HeightLaws
+mod CappedLaws
