@@ -1,0 +1,5 @@
+pub mod Degrees
+pub mod Polynomials
+pub mod Columns
+pub mod Grids
+pub mod Verdicts
