@@ -1,0 +1,5 @@
+use Rattle.geo_eval.proofs.SceneLaws.{done_change}
+use Rattle.geo_eval.proofs.tests.Stage.add.Goals as goal
+
+pub apply-requires-clause-before : goal.apply-requires-clause-before
+apply-requires-clause-before g c = (done_change c.args.self.now.sketch c.add.new.self c.in_ok-delta.delta c.args.self.now.scene c.elements-drawn.ensures.drawn c.in_ok-delta.ensures.leads c.in_ok-delta.ensures.after c.requires.shown).1

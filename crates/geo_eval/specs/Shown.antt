@@ -1,0 +1,43 @@
+-- What is shown of a sketch: of each element its number, name and kind, and where
+-- it is at the current values of all parameters.
+use Rattle.std.specs.Prelude.{ℕ, nat_lt, if◌then◌else◌, Option, None, Some, List, map}
+use Rattle.geo_triple.specs.declared.Triple.{Triple}
+use Rattle.geo_triple.specs.Primitive.{primitive_of}
+use Rattle.geo_sketch.specs.declared.elements.Kind.{Kind}
+use Rattle.geo_sketch.specs.declared.elements.Element.{Element}
+use Rattle.geo_sketch.specs.Assignments.{current, magnitudes}
+use Rattle.geo_sketch.specs.Heights.{height_of, height_limit}
+use Rattle.geo_sketch.specs.Sketches.{Drawing}
+use Rattle.geo_sketch.specs.Triples.{triple_at}
+use Rattle.geo_eval.specs.declared.here.Here.{Here}
+use Rattle.geo_eval.specs.declared.here.Here.TheVariants.{At, NullHere, Far}
+
+pub record Shown : Type 0 where
+  pub number : ℕ
+  pub name : List ℕ
+  pub kind : Kind
+  pub here : Here
+
+-- the zero triple is shown as null, any other by its primitive triple
+abbrev pub here_by : Option Triple → Here
+here_by None = NullHere
+here_by (Some u) = At u
+
+-- the height of element n at the absolute values of the current parameters
+abbrev pub current_height : Drawing → ℕ → ℕ
+current_height drawing n = height_of drawing.elements n (magnitudes (current drawing.settings))
+
+-- the triple of element n at the current values
+abbrev pub current_triple : Drawing → ℕ → Triple
+current_triple drawing n = triple_at drawing.elements n (current drawing.settings)
+
+-- where element n is: far past the limit of heights, else by its triple
+abbrev pub here_of : Drawing → ℕ → Here
+here_of drawing n = if nat_lt height_limit (current_height drawing n) then Far else here_by (primitive_of (current_triple drawing n))
+
+abbrev pub shown : Drawing → Element → Shown
+shown drawing e = record { number = e.number; name = e.name; kind = e.kind; here = here_of drawing e.number }
+
+-- by rising number
+abbrev pub shown_of : Drawing → List Shown
+shown_of drawing = map (shown drawing) drawing.elements

@@ -1,0 +1,14 @@
+//! What is shown of an element.
+
+use geo_triple::Triple;
+
+/// Where an element is.
+#[derive(Clone, Copy)]
+pub enum Here {
+    /// At the point or line with these primitive coordinates.
+    At(Triple),
+    /// Its triple is zero.
+    NullHere,
+    /// Its height at the current values is greater than 2^41.
+    Far,
+}
