@@ -1,0 +1,13 @@
+pub mod CommandWordLemmas
+pub mod DigitLemmas
+pub mod ExtendLemmas
+pub mod FillLemmas
+pub mod FormLemmas
+pub mod JoinLemmas
+pub mod LineLemmas
+pub mod NumberLemmas
+pub mod PrintLemmas
+pub mod RoomLemmas
+pub mod SpellLemmas
+pub mod WordLemmas
+pub mod WrittenLemmas

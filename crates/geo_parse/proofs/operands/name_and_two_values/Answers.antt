@@ -1,0 +1,11 @@
+use Rattle.std.proofs.Common.{arith}
+use Rattle.geo_parse.specs.Grammar.{name, number}
+use Rattle.geo_parse.proofs.FillLemmas.{fill3, as_read}
+use Rattle.geo_parse.proofs.operands.name_and_two_values.Goals as goal
+
+pub returns-in_ok-read_value-in-len3-2-clause-ok : goal.returns-in_ok-read_value-in-len3-2-clause-ok
+returns-in_ok-read_value-in-len3-2-clause-ok c =
+    let x = c.in_ok-read_value-in-len3.ensures in
+    let y = (c.in_ok-read_value-in-len3-2).ensures in
+    fill3 (name _) (number _) (number _) c.args.words.now _ (omega arith) c.in_ok-read_name-in-len3.ensures.ok
+    (as_read _ _ x.range x.ok) (as_read _ _ y.range y.ok)

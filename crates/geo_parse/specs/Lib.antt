@@ -1,0 +1,10 @@
+pub mod Words
+pub mod WordsLeft
+pub mod CommandWords
+pub mod Numbers
+pub mod Grammar
+pub mod Refusals
+pub mod Printing
+pub mod Readers
+pub mod Writers
+pub mod Reading

@@ -1,0 +1,22 @@
+//! The script language: a line read as a command, and a command written as a
+//! line.
+#![tactic(auto)]
+
+mod command_words;
+mod commands;
+mod laws;
+mod lines;
+mod numbers;
+mod operands;
+mod printing;
+mod reading;
+mod statements;
+#[cfg(test)]
+mod tests;
+mod words;
+
+pub use commands::Command;
+pub use laws::spells_one_command;
+pub use lines::read_line;
+pub use printing::print_command;
+pub use words::{Words, split_words};
