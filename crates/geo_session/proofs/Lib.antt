@@ -1,0 +1,3 @@
+mod ScreenLaws
+mod StateLaws
+mod TogetherLaws

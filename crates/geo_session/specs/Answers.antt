@@ -1,0 +1,115 @@
+-- What is answered to a line, and to a script.
+use Rattle.std.specs.Prelude.{ℕ, ◌+◌, ◌-◌, ◌^◌, ◌++◌, min, Bool, true, false, ◌||◌, Option, None, Some, Result, Ok, Err, List, [], ◌∷◌}
+use Rattle.geo_sketch.specs.declared.changes.Delta.{Delta}
+use Rattle.geo_sketch.specs.declared.changes.Delta.TheVariants as delta
+use Rattle.geo_sketch.specs.declared.changes.Refusal.{Refusal}
+use Rattle.geo_sketch.specs.declared.changes.Refusal.TheVariants as refusal
+use Rattle.geo_sketch.specs.Sketches.{Drawing}
+use Rattle.geo_sketch.specs.Changes.{made_of, all_but_last}
+use Rattle.geo_sketch.specs.Additions.{addition_of}
+use Rattle.geo_sketch.specs.Claims.{claim_of}
+use Rattle.geo_sketch.specs.Drags.{drag_of}
+use Rattle.geo_sketch.specs.Drops.{drop_of}
+use Rattle.geo_parse.specs.declared.commands.Command.{Command}
+use Rattle.geo_parse.specs.declared.commands.Command.TheVariants as command
+use Rattle.geo_parse.specs.Reading.{read_of}
+use Rattle.geo_eval.specs.Shown.{shown_of}
+use Rattle.geo_session.specs.declared.state.Reply.{Reply}
+use Rattle.geo_session.specs.declared.state.Reply.TheVariants as reply
+use Rattle.geo_session.specs.Texts.{screen_text, ok_line, refusal_line}
+
+-- the changes that are done, those that were undone, and how many lines were read
+pub record State : Type 0 where
+  pub done : List Delta
+  pub undone : List Delta
+  pub count : ℕ
+
+-- nothing is done
+abbrev pub start : State
+start = record { done = []; undone = []; count = 0 }
+
+-- the sketch that the done changes make, from the empty one
+abbrev pub drawing_of : State → Drawing
+drawing_of state = made_of state.done
+
+pub record Answer : Type 0 where
+  pub reply : Reply
+  pub bytes : List ℕ
+  pub next : State
+
+-- one more line; the count stays at its last value
+abbrev pub counted : State → State
+counted state = record { done = state.done; undone = state.undone; count = min (state.count + 1) (2 ^ 64 - 1) }
+
+abbrev pub refused : State → Refusal → Answer
+refused state r = record { reply = reply.Refused r; bytes = refusal_line state.count r; next = state }
+
+-- a text is written
+abbrev pub written : State → List ℕ → Answer
+written state text = record { reply = reply.Accepted; bytes = text; next = state }
+
+-- ok, from the changes that are then done and undone
+abbrev pub moved : State → List Delta → List Delta → Answer
+moved state done undone = record { reply = reply.Accepted; bytes = ok_line; next = record { done = done; undone = undone; count = state.count } }
+
+-- a change is made, and nothing is undone any more; or it is refused
+abbrev pub changed : State → Result Delta Refusal → Answer
+changed state (Ok d) = moved state (state.done ++ (d ∷ [])) []
+changed state (Err r) = refused state r
+
+abbrev pub last_of : List Delta → Option Delta
+last_of [] = None
+last_of (d ∷ []) = Some d
+last_of (d ∷ e ∷ ds) = last_of (e ∷ ds)
+
+-- the last done change, if there is one, becomes the first undone one
+abbrev pub taken_back_to : State → Option Delta → Answer
+taken_back_to state None = refused state refusal.Nothing
+taken_back_to state (Some d) = moved state (all_but_last state.done) (d ∷ state.undone)
+
+-- the first undone change, if there is one, becomes the last done one
+abbrev pub done_again : State → List Delta → Answer
+done_again state [] = refused state refusal.Nothing
+done_again state (d ∷ ds) = moved state (state.done ++ (d ∷ [])) ds
+
+-- to a command, on the line that was counted last
+abbrev pub answer_to : State → Command → Answer
+answer_to state (command.Add name kind spec) = changed state (addition_of (drawing_of state) name kind spec)
+answer_to state (command.Claim said) = changed state (claim_of (drawing_of state) said)
+answer_to state command.Dual = changed state (Ok delta.Dual)
+answer_to state command.Screen = written state (screen_text (shown_of (drawing_of state)))
+answer_to state (command.Drag name to) = changed state (drag_of (drawing_of state) name to)
+answer_to state (command.Drop name) = changed state (drop_of (drawing_of state) name)
+answer_to state command.Undo = taken_back_to state (last_of state.done)
+answer_to state command.Redo = done_again state state.undone
+answer_to state command.Conjectures = refused state refusal.Command
+answer_to state command.Ledger = refused state refusal.Command
+answer_to state (command.Certify said) = refused state refusal.Command
+answer_to state command.Svg = refused state refusal.Command
+answer_to state (command.Show k) = refused state refusal.Command
+answer_to state (command.Close k) = refused state refusal.Command
+
+-- to a line, by what it reads as
+abbrev pub answer_by : State → Result (Option Command) Refusal → Answer
+answer_by state (Err r) = refused state r
+answer_by state (Ok None) = record { reply = reply.Nothing; bytes = []; next = state }
+answer_by state (Ok (Some c)) = answer_to state c
+
+-- the answer to a line
+unfoldable pub answer_of : State → List ℕ → Answer
+answer_of state line = answer_by (counted state) (read_of line)
+
+-- the reply to the lines of a script, one after the other
+unfoldable pub script_reply : State → List (List ℕ) → List ℕ
+script_reply state [] = []
+script_reply state (line ∷ lines) = (answer_of state line).bytes ++ script_reply (answer_of state line).next lines
+
+abbrev pub is_refused : Reply → Bool
+is_refused reply.Nothing = false
+is_refused reply.Accepted = false
+is_refused (reply.Refused r) = true
+
+-- whether a line of the script is refused
+unfoldable pub has_refusal : State → List (List ℕ) → Bool
+has_refusal state [] = false
+has_refusal state (line ∷ lines) = is_refused (answer_of state line).reply || has_refusal (answer_of state line).next lines

@@ -1,0 +1,12 @@
+-- What a session keeps together.
+use Rattle.std.specs.Prelude.{◌≡◌, List, Option}
+use Rattle.geo_sketch.specs.declared.changes.Delta.{Delta}
+use Rattle.geo_sketch.specs.Sketches.{Drawing}
+use Rattle.geo_sketch.specs.Changes.{made_of}
+use Rattle.geo_eval.specs.declared.evaluation.Reach.{Reach}
+use Rattle.geo_eval.specs.Scenes.{IsSceneOf}
+
+-- the sketch is what the done changes make, and the scene is that of the sketch
+pub record IsTogether (drawing : Drawing) (done : List Delta) (slots : List (Option Reach)) : Type 0 where
+  pub made : drawing ≡ made_of done
+  pub shown : IsSceneOf slots drawing
