@@ -88,8 +88,11 @@ pub fn run_in_memory(
     sink: &mut SureSink,
 ) -> Outcome
     ensures usage { (result ≡ Outcome.Usage) ↔ (IsForm words.now → ⊥) }
+    ensures untouched { result ≡ Outcome.Usage → (source.new ≡ source.old) × (sink.new ≡ sink.old) }
     ensures answers { IsAnswered result → Answers result source.old sink.old (Some source.new) (Some sink.new) }
     ensures stops { IsStopped result → Stops source.old sink.old (Some source.new) (Some sink.new) }
+    ensures sure { (result ≡ Outcome.ReadFault → ⊥) × (result ≡ Outcome.WriteFault → ⊥) }
+    ensures too_long { IsTooLongExactly result (Some source.old) (Some source.new) }
     ensures complete { IsForm words.now → length source.old ≤ 2 ^ 24 → IsAnswered result ⊎ (result ≡ Outcome.NoMemory) }
 {
     run_program(alloc, words, source, sink)

@@ -16,7 +16,7 @@ fn words(alloc: Global, word: &str) -> Result<Vec<String>, AllocError> {
     Ok(words)
 }
 
-const SCRIPTS: [(&[u8], Outcome, &[u8]); 15] = [
+const SCRIPTS: [(&[u8], Outcome, &[u8]); 16] = [
     (b"", Outcome::Done, b""),
     (
         b"fixpoint A 0 0 1\nfixpoint B 4 2 1\njoin l A B\nscreen\n",
@@ -83,6 +83,11 @@ const SCRIPTS: [(&[u8], Outcome, &[u8]); 15] = [
         b"fixpoint A 0 0 1\nfixpoint B 4 2 1\njoin l A B\non P l 2\ndrag P 3\nscreen\nundo\nclaim on P l\nclaim on P l\nscreen\n",
         Outcome::SomeRefused,
         b"ok\nok\nok\nok\nok\nA point 0 0 1\nB point 4 2 1\nl line -1 2 0\nP point 6 3 2\nok\nok\nrefused 9 repeat\nA point 0 0 1\nB point 4 2 1\nl line -1 2 0\nP point 2 1 1\n",
+    ),
+    (
+        b"fixpoint O 0 0 1\npoint A 1 0\npoint B 0 1\npoint C -1 -1\nalong D O A 1\nalong E O B 2\nalong F O C 3\njoin ab A B\njoin de D E\nmeet X ab de\njoin bc B C\njoin ef E F\nmeet Y bc ef\njoin ca C A\njoin fd F D\nmeet Z ca fd\nclaim collinear X Y Z\ndrag A 1000 1000\ndrag B 1000 -1000\nscreen\n",
+        Outcome::Done,
+        b"ok\nok\nok\nok\nok\nok\nok\nok\nok\nok\nok\nok\nok\nok\nok\nok\nok\nok\nok\nO point 0 0 1\nA point 1000 1000 1\nB point 1000 -1000 1\nC point -1 -1 1\nD point 500 500 1\nE point 2000 -2000 3\nF point -3 -3 4\nab line -1 0 1000\nde line -7 -1 4000\nX point far\nbc line 999 1001 2000\nef line 7991 8009 12000\nY point -2003 1997 1\nca line -1 1 0\nfd line -1 1 0\nZ point null\n",
     ),
 ];
 
