@@ -14,7 +14,7 @@ use Rattle.geo_sketch.specs.Constructions.{by_def, computed, AtNamed}
 use Rattle.geo_sketch.specs.Tables.{IsConstruction, IsLive}
 use Rattle.geo_sketch.specs.Triples.{coordinates, of_coordinates, parts_at, triple_algebra, triple_at}
 use Rattle.geo_sketch.proofs.ConstructionLaws.{both_named}
-use Rattle.geo_height.proofs.LiveElements.{related, live_step}
+use Rattle.geo_sketch.proofs.LiveElements.{related, live_step}
 use Rattle.geo_degree.specs.Degrees.{degree_algebra, degree_of, statement_degree}
 use Rattle.geo_degree.specs.Grids.{at_axes, axes_among, axes_of, axis, own_parameters, parameters_of, values_on}
 use Rattle.geo_degree.specs.Verdicts.{statement_parts}

@@ -13,7 +13,7 @@ use Rattle.geo_sketch.specs.Constructions.{by_def, computed, AtNamed}
 use Rattle.geo_sketch.specs.Sketches.{numbered, Rises}
 use Rattle.geo_sketch.specs.Tables.{IsConstruction}
 use Rattle.geo_sketch.proofs.ConstructionLaws.{at_named}
-use Rattle.geo_height.proofs.LiveElements.{related}
+use Rattle.geo_sketch.proofs.LiveElements.{related}
 use Rattle.geo_degree.specs.declared.grids.Axis.{Axis}
 use Rattle.geo_degree.specs.Degrees.{degree_algebra, degree_of, statement_degree}
 use Rattle.geo_degree.specs.Grids.{own_parameters, parameters_of, axis, axes_among, axes_of}

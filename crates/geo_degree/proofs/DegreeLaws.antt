@@ -16,7 +16,7 @@ use Rattle.geo_sketch.specs.Sketches.{Drawing, IsDrawn, numbered}
 use Rattle.geo_sketch.specs.Tables.{IsLive, IsConstruction}
 use Rattle.geo_sketch.proofs.ConstructionLaws.{at_named}
 use Rattle.geo_sketch.proofs.HeightLaws.{low}
-use Rattle.geo_height.proofs.LiveElements.{related, live_step, absent_step}
+use Rattle.geo_sketch.proofs.LiveElements.{related, live_step, absent_step}
 use Rattle.geo_height.proofs.HeightLaws.{constructed, positive}
 use Rattle.geo_degree.specs.Degrees.{degree_algebra, degree_of, statement_degree, element_degree_limit, statement_degree_limit}
 

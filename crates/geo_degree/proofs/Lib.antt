@@ -2,6 +2,8 @@ pub mod DegreeLaws
 pub mod PolynomialLaws
 pub mod GridLaws
 pub mod AxisLaws
-pub mod VerdictLaws
 pub mod ColumnLaws
 pub mod AgreementLaws
+pub mod HoldingLaws
+pub mod VerdictLaws
+pub mod FormLaws

@@ -17,7 +17,7 @@ use Rattle.geo_sketch.specs.Constructions.{by_def, computed, AtNamed}
 use Rattle.geo_sketch.specs.Tables.{IsConstruction}
 use Rattle.geo_sketch.specs.Triples.{triple_algebra, triple_at, of_coordinates, coordinates, parts_at}
 use Rattle.geo_sketch.proofs.ConstructionLaws.{at_named}
-use Rattle.geo_height.proofs.LiveElements.{related}
+use Rattle.geo_sketch.proofs.LiveElements.{related}
 use Rattle.geo_degree.specs.Degrees.{degree_algebra, degree_of, statement_degree}
 use Rattle.geo_degree.specs.Polynomials.{Lists, of_lists, cross_of_lists, dot_of_lists, determinant_of_lists, blend_of_lists, cut_of_lists, parameter_list, list_algebra, lists_of, coordinate_lists, part_lists, values_at, AreShort, with_value}
 use Rattle.geo_degree.proofs.DegreeLaws.{degree_later}

@@ -1,12 +1,10 @@
 -- The grid of a statement: a finite list of values for each parameter on which it
 -- depends, enough to decide it.
-use Rattle.std.specs.Prelude.{ℕ, zero, suc, ◌+◌, ◌*◌, ◌/◌, ◌%◌, ◌<◌, ◌≤◌, ◌^◌, ◌==◌, nat_lt, if◌then◌else◌, ℤ, pos, neg_ℤ, List, [], ◌∷◌, ◌++◌, map}
+use Rattle.std.specs.Prelude.{ℕ, zero, suc, ◌+◌, ◌*◌, ◌/◌, ◌%◌, ◌==◌, nat_lt, if◌then◌else◌, ℤ, pos, neg_ℤ, List, [], ◌∷◌, ◌++◌, length, map, slice_index_or}
 use Rattle.geo_sketch.specs.declared.elements.Def.{Def}
 use Rattle.geo_sketch.specs.declared.elements.Def.TheVariants.{Free, Fixed, Cut, Blend, Cross}
 use Rattle.geo_sketch.specs.declared.elements.Element.{Element}
 use Rattle.geo_sketch.specs.declared.statements.Statement.{Statement}
-use Rattle.geo_sketch.specs.Triples.{AreZero}
-use Rattle.geo_height.specs.Capped.{statement_limit}
 use Rattle.geo_degree.specs.declared.grids.Axis.{Axis}
 use Rattle.geo_degree.specs.Degrees.{statement_degree}
 
@@ -65,35 +63,32 @@ abbrev pub axis_magnitude : Axis → ℕ
 axis_magnitude a = (a.degree + 1) / 2
 
 -- ---- the points
-abbrev pub grid_size : List Axis → ℕ
+-- a block has some of the axes, which follow on one another, and is the list of its
+-- points: each gives every one of these axes a value. A grid is a list of blocks, which
+-- together have all the axes
+abbrev pub Block : Type 0
+Block = List (List ℤ)
+
+-- an axis by itself: a point for each of its values
+abbrev pub block_of : Axis → Block
+block_of a = map (λ x. x ∷ []) (axis_values a)
+
+-- the grid that some axes make: a block for each
+abbrev pub grid_of : List Axis → List Block
+grid_of [] = []
+grid_of (a ∷ axes) = block_of a ∷ grid_of axes
+
+-- how many points a grid has
+abbrev pub grid_size : List Block → ℕ
 grid_size [] = 1
-grid_size (a ∷ axes) = (a.degree + 1) * grid_size axes
+grid_size (block ∷ blocks) = length block * grid_size blocks
 
--- the values at point i: i in mixed radix, whose last digit runs fastest
-abbrev pub grid_point : List Axis → ℕ → List ℤ
+-- the values at point i: i in mixed radix over the blocks, whose last digit runs fastest
+abbrev pub grid_point : List Block → ℕ → List ℤ
 grid_point [] i = []
-grid_point (a ∷ axes) i = grid_value (i / grid_size axes) ∷ grid_point axes (i % grid_size axes)
+grid_point (block ∷ blocks) i = slice_index_or block (i / grid_size blocks) [] ++ grid_point blocks (i % grid_size blocks)
 
--- ---- what is asked of a grid, of the parts at a list of values of the axes, and of the
--- height at a list of magnitudes of the axes
-abbrev pub size_limit : ℕ
-size_limit = 2 ^ 20
-
--- the grid has few enough points, and numbers on it are small enough
-pub record IsWithinLimits (axes : List Axis) (height_at : List ℕ → ℕ) : Type 0 where
-  pub size : grid_size axes ≤ size_limit
-  pub height : height_at (map axis_magnitude axes) ≤ statement_limit
-
--- all parts are 0 at point i
-abbrev pub IsZeroAt : List Axis → (List ℤ → List ℤ) → ℕ → Type 0
-IsZeroAt axes parts_at i = AreZero (parts_at (grid_point axes i))
-
--- all parts are 0 at every grid point
-abbrev pub IsClear : List Axis → (List ℤ → List ℤ) → Type 0
-IsClear axes parts_at = (i : ℕ) → i < grid_size axes → IsZeroAt axes parts_at i
-
--- i is the least index at which a part is not 0
-pub record IsLeastFailing (axes : List Axis) (parts_at : List ℤ → List ℤ) (i : ℕ) : Type 0 where
-  pub within : i < grid_size axes
-  pub fails : ¬ IsZeroAt axes parts_at i
-  pub least : (j : ℕ) → j < i → IsZeroAt axes parts_at j
+-- the digits of that: for each block the place of its point
+abbrev pub digits : List Block → ℕ → List ℕ
+digits [] i = []
+digits (block ∷ blocks) i = i / grid_size blocks ∷ digits blocks (i % grid_size blocks)

@@ -1,50 +1,59 @@
--- The verdict of a statement, or of anything else that has axes, parts at a list of
--- values of the axes, and a height at a list of their magnitudes.
-use Rattle.std.specs.Prelude.{◌≡◌, ℕ, ◌<◌, ◌≤◌, ◌⊎◌, ℤ, pos, List, [], ◌∷◌}
+-- The verdict on a statement, or on anything else that asks whether some parts are 0.
+use Rattle.std.specs.Prelude.{◌≡◌, ℕ, ◌<◌, ◌≤◌, ◌⊎◌, ℤ, pos, List, [], ◌∷◌, slice_index_or}
 use Rattle.geo_sketch.specs.declared.elements.Element.{Element}
 use Rattle.geo_sketch.specs.declared.statements.Statement.{Statement}
+use Rattle.geo_sketch.specs.declared.verdicts.Past.{Past}
+use Rattle.geo_sketch.specs.declared.verdicts.Past.TheVariants.{Size, Height}
+use Rattle.geo_sketch.specs.declared.verdicts.Verdict.{Verdict}
+use Rattle.geo_sketch.specs.declared.verdicts.Verdict.TheVariants.{Proved, False, Unsettled}
 use Rattle.geo_sketch.specs.Heights.{statement_height}
-use Rattle.geo_sketch.specs.Triples.{AreZero, Holds, parts_at}
+use Rattle.geo_sketch.specs.Samples.{sample_count}
+use Rattle.geo_sketch.specs.Sketches.{Drawing, IsDrawn, IsPosed}
+use Rattle.geo_sketch.specs.Triples.{Holds, parts_at}
 use Rattle.geo_degree.specs.declared.grids.Axis.{Axis}
-use Rattle.geo_degree.specs.Grids.{at_axes, axes_of, grid_point, grid_size, size_limit, IsWithinLimits, IsLeastFailing}
+use Rattle.geo_degree.specs.Grids.{at_axes, axis, axes_of, grid_size}
+use Rattle.geo_degree.specs.Polynomials.{part_lists}
+use Rattle.geo_degree.specs.Questions.{Question, blocks, point, sample, size_limit, IsLeastFailing, IsWithinLimits, IsZeroAt}
 
--- proved; false, with values of the axes; or past the limit of the size or of the height
-pub data Verdict : Type 0 where
-  Proved : Verdict
-  FailsAt : List ℤ → Verdict
-  TooManyPoints : Verdict
-  TooHigh : Verdict
+-- each axis with its value
+abbrev pub named : List Axis → List ℤ → List (ℕ × ℤ)
+named [] xs = []
+named (a ∷ axes) [] = []
+named (a ∷ axes) (x ∷ xs) = (a.param, x) ∷ named axes xs
 
--- the parts are 0 at each of the samples
-abbrev pub AreClear : (List ℤ → List ℤ) → List (List ℤ) → Type 0
-AreClear parts_at [] = Unit {0}
-AreClear parts_at (xs ∷ samples) = AreZero (parts_at xs) × AreClear parts_at samples
+-- s is the first sample position at which a part is not 0
+pub record IsFirstFailing (q : Question) (s : ℕ) : Type 0 where
+  pub within : s < sample_count
+  pub fails : ¬ IsZeroAt q (sample q s)
+  pub first : (t : ℕ) → t < s → IsZeroAt q (sample q t)
 
--- xs is the first of the samples at which a part is not 0
-abbrev pub IsFirstFailing : (List ℤ → List ℤ) → List (List ℤ) → List ℤ → Type 0
-IsFirstFailing parts_at [] xs = ⊥
-IsFirstFailing parts_at (ys ∷ samples) xs = ((ys ≡ xs) × (¬ AreZero (parts_at ys))) ⊎ (AreZero (parts_at ys) × IsFirstFailing parts_at samples xs)
+-- all parts are 0 at every sample position
+abbrev pub IsZeroAtSamples : Question → Type 0
+IsZeroAtSamples q = (s : ℕ) → s < sample_count → IsZeroAt q (sample q s)
 
--- on the grid, where it is within the limits: proved where the statement holds, else
--- false at the least index at which a part is not 0
-abbrev pub IsGridVerdict : List Axis → (List ℤ → List ℤ) → Type 0 → Verdict → Type 0
-IsGridVerdict axes parts_at holds Proved = holds
-IsGridVerdict axes parts_at holds (FailsAt xs) = (i : ℕ) × IsLeastFailing axes parts_at i × (xs ≡ grid_point axes i)
-IsGridVerdict axes parts_at holds TooManyPoints = ⊥
-IsGridVerdict axes parts_at holds TooHigh = ⊥
+-- the size passes its limit; or it does not, so that outside of the limits it is the
+-- height that passes its own
+abbrev pub IsPast : Question → Past → Type 0
+IsPast q Size = size_limit < grid_size (blocks q)
+IsPast q Height = grid_size (blocks q) ≤ size_limit
 
--- by the samples, elsewhere: false at the first sample at which a part is not 0, else
--- not settled
-abbrev pub IsSampleVerdict : List Axis → (List ℤ → List ℤ) → List (List ℤ) → Verdict → Type 0
-IsSampleVerdict axes parts_at samples Proved = ⊥
-IsSampleVerdict axes parts_at samples (FailsAt xs) = IsFirstFailing parts_at samples xs
-IsSampleVerdict axes parts_at samples TooManyPoints = AreClear parts_at samples × (size_limit < grid_size axes)
-IsSampleVerdict axes parts_at samples TooHigh = AreClear parts_at samples × (grid_size axes ≤ size_limit)
+-- where the grid is within the limits: proved where the question holds, else false at the
+-- values of the least index at which a part is not 0
+abbrev pub IsGridVerdict : Question → Type 0 → Verdict → Type 0
+IsGridVerdict q holds Proved = holds
+IsGridVerdict q holds (False values) = (i : ℕ) × IsLeastFailing q i × (values ≡ named q.axes (point q i))
+IsGridVerdict q holds (Unsettled past) = ⊥
 
--- the verdict; samples has the values of the axes at each sample position
-abbrev pub IsVerdict : List Axis → (List ℤ → List ℤ) → (List ℕ → ℕ) → Type 0 → List (List ℤ) → Verdict → Type 0
-IsVerdict axes parts_at height_at holds samples r =
-    (IsWithinLimits axes height_at × IsGridVerdict axes parts_at holds r) ⊎ ((¬ IsWithinLimits axes height_at) × IsSampleVerdict axes parts_at samples r)
+-- elsewhere: false at the values of the first sample position at which a part is not 0,
+-- else not settled, for its size or else for its height
+abbrev pub IsSampleVerdict : Question → Verdict → Type 0
+IsSampleVerdict q Proved = ⊥
+IsSampleVerdict q (False values) = (s : ℕ) × IsFirstFailing q s × (values ≡ named q.axes (sample q s))
+IsSampleVerdict q (Unsettled past) = IsZeroAtSamples q × IsPast q past
+
+-- the verdict, where `holds` says that the question does
+abbrev pub IsVerdict : Question → Type 0 → Verdict → Type 0
+IsVerdict q holds r = (IsWithinLimits q × IsGridVerdict q holds r) ⊎ ((¬ IsWithinLimits q) × IsSampleVerdict q r)
 
 -- ---- of a statement, where every parameter that is no axis is 0
 abbrev pub statement_parts : List Element → Statement → List ℤ → List ℤ
@@ -53,5 +62,28 @@ statement_parts es s xs = parts_at es s (at_axes (pos 0) (axes_of es s) xs)
 abbrev pub statement_height_at : List Element → Statement → List ℕ → ℕ
 statement_height_at es s magnitudes = statement_height es s (at_axes 0 (axes_of es s) magnitudes)
 
-abbrev pub IsStatementVerdict : List Element → Statement → List (List ℤ) → Verdict → Type 0
-IsStatementVerdict es s samples r = IsVerdict (axes_of es s) (statement_parts es s) (statement_height_at es s) (Holds es s) samples r
+-- of part k, in the axis at a place
+abbrev pub statement_coefficients : List Element → Statement → List ℤ → ℕ → ℕ → List ℤ
+statement_coefficients es s xs k place =
+    slice_index_or (part_lists es s (at_axes (pos 0) (axes_of es s) xs) (slice_index_or (axes_of es s) place (axis 0 0)).param) k []
+
+abbrev pub question_of : List Element → Statement → Question
+question_of es s = record {
+  axes = axes_of es s;
+  parts_at = statement_parts es s;
+  coefficients = statement_coefficients es s;
+  height_at = statement_height_at es s;
+}
+
+abbrev pub IsStatementVerdict : List Element → Statement → Verdict → Type 0
+IsStatementVerdict es s r = IsVerdict (question_of es s) (Holds es s) r
+
+-- ---- of all statements
+-- a verdict for each statement about some elements
+abbrev pub Verdicts : Type 0
+Verdicts = List Element → Statement → Verdict
+
+-- each is the verdict, wherever the elements are those of a sketch and the statement is
+-- posed in it. There are such verdicts, and no two of them differ
+abbrev pub AreRight : Verdicts → Type 0
+AreRight verdict_of = (drawing : Drawing) (s : Statement) → IsDrawn drawing → IsPosed drawing.elements s → IsStatementVerdict drawing.elements s (verdict_of drawing.elements s)

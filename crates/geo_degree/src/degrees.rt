@@ -7,7 +7,7 @@ ghost use Rattle.geo_height.specs.Bounds.{AtStated};
 ghost use Rattle.geo_degree.specs.Columns.{IsColumn, degree_in};
 ghost use Rattle.geo_degree.specs.Degrees.{degree_algebra, degree_of, element_degree_limit, statement_degree, statement_degree_limit};
 
-use geo_sketch::{Def, Element, NoMemory, Sketch, Statement};
+use geo_sketch::{Def, Element, NoMemory, Sketch, Statement, place_of};
 use std::alloc::Global;
 use std::marker::Model;
 
@@ -182,16 +182,4 @@ fn low_degree_at(elements: &[Element], degrees: &[u64], number: u32) -> u64
     ensures low { result ≤ element_degree_limit }
 {
     degree_at(elements, degrees, number)
-}
-
-/// The place of the element with this number, or the list's length.
-fn place_of(elements: &[Element], number: u32) -> usize
-    ensures { result ≡ place elements.now number }
-{
-    for (i, element) in elements.iter().enumerate() {
-        if element.number == number {
-            return i;
-        }
-    }
-    elements.len()
 }

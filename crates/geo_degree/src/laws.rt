@@ -1,17 +1,19 @@
 //! Laws of degrees and grids: functions that do nothing, whose contracts are the laws.
 
-ghost use Rattle.std.specs.Prelude.{◌≡◌, ℕ, ◌+◌, ◌<◌, ◌≤◌, ℤ, unsigned_abs, List, length, map, All, AllPairs, Contains};
+ghost use Rattle.std.specs.Prelude.{◌≡◌, ℕ, ◌+◌, ◌<◌, ◌≤◌, ◌↔◌, ℤ, unsigned_abs, List, length, map, All, AllPairs, Contains};
 ghost use Rattle.std.specs.List.{AllZip};
 ghost use Rattle.geo_law.specs.Coefficients.{AreDistinct};
 ghost use Rattle.geo_law.specs.Grids.{IsTaken};
 ghost use Rattle.geo_sketch.specs.declared.statements.Statement.{Statement as Posed};
-ghost use Rattle.geo_sketch.specs.Sketches.{Drawing, IsDrawn};
+ghost use Rattle.geo_sketch.specs.declared.verdicts.Verdict.{Verdict as Found};
+ghost use Rattle.geo_sketch.specs.Sketches.{Drawing, IsDrawn, IsPosed};
 ghost use Rattle.geo_sketch.specs.Triples.{coordinates, parts_at, triple_at, Holds};
 ghost use Rattle.geo_degree.specs.declared.grids.Axis.{Axis as GridAxis};
 ghost use Rattle.geo_degree.specs.Degrees.{degree_of, element_degree_limit, statement_degree, statement_degree_limit};
-ghost use Rattle.geo_degree.specs.Grids.{axes_of, axis, axis_magnitude, axis_values, grid_point, grid_size, values_on, IsClear};
+ghost use Rattle.geo_degree.specs.Grids.{axes_of, axis, axis_magnitude, axis_values, grid_of, grid_point, grid_size, values_on};
 ghost use Rattle.geo_degree.specs.Polynomials.{AreShort, coordinate_lists, lists_of, part_lists, values_at, with_value};
-ghost use Rattle.geo_degree.specs.Verdicts.{statement_parts, IsStatementVerdict, Verdict as Word};
+ghost use Rattle.geo_degree.specs.Questions.{Question, IsClear, IsForm, IsZeroEverywhere};
+ghost use Rattle.geo_degree.specs.Verdicts.{question_of, statement_parts, IsVerdict, IsStatementVerdict};
 
 /// In each parameter p, with all others fixed at any whole numbers, each coordinate of
 /// an element is the value of its coefficient list, which has at most as many entries
@@ -58,13 +60,26 @@ pub fn axis_has_enough_values()
 /// The points of a grid are the lists that are taken from the values of its axes, and
 /// their entries are in absolute value at most the magnitudes of the axes.
 pub fn points_are_taken_from_the_axes()
-    ensures taken { (axes : List GridAxis) (i : ℕ) → i < grid_size axes → IsTaken (map axis_values axes) (grid_point axes i) }
-    ensures each_is_a_point { (axes : List GridAxis) (xs : List ℤ) → IsTaken (map axis_values axes) xs → (i : ℕ) × (i < grid_size axes) × (grid_point axes i ≡ xs) }
-    ensures bounded { (axes : List GridAxis) (i : ℕ) → i < grid_size axes → AllZip (λ a x. unsigned_abs x ≤ axis_magnitude a) axes (grid_point axes i) }
+    ensures taken { (axes : List GridAxis) (i : ℕ) → i < grid_size (grid_of axes) → IsTaken (map axis_values axes) (grid_point (grid_of axes) i) }
+    ensures each_is_a_point { (axes : List GridAxis) (xs : List ℤ) → IsTaken (map axis_values axes) xs → (i : ℕ) × (i < grid_size (grid_of axes)) × (grid_point (grid_of axes) i ≡ xs) }
+    ensures bounded { (axes : List GridAxis) (i : ℕ) → i < grid_size (grid_of axes) → AllZip (λ x m. unsigned_abs x ≤ m) (grid_point (grid_of axes) i) (map axis_magnitude axes) }
 {}
 
-/// A statement that holds is 0 at every grid point, and no statement has two verdicts.
+/// A statement asks what a grid can answer: its parts are polynomials in its axes, with
+/// the degrees of these, and its height bounds them.
+pub fn statements_are_forms()
+    ensures { (drawing : Drawing) (s : Posed) → IsDrawn drawing → IsPosed drawing.elements s → IsForm (question_of drawing.elements s) }
+{}
+
+/// A statement holds where its parts are 0 at all values of its axes, and only there.
+pub fn holds_by_the_axes_alone()
+    ensures { (drawing : Drawing) (s : Posed) → IsDrawn drawing → Holds drawing.elements s ↔ IsZeroEverywhere (question_of drawing.elements s) }
+{}
+
+/// A statement that holds is 0 at every grid point. No statement has two verdicts, and no
+/// question has.
 pub fn one_verdict()
-    ensures clear { (drawing : Drawing) (s : Posed) → Holds drawing.elements s → IsClear (axes_of drawing.elements s) (statement_parts drawing.elements s) }
-    ensures one { (drawing : Drawing) (s : Posed) (samples : List (List ℤ)) (r t : Word) → IsStatementVerdict drawing.elements s samples r → IsStatementVerdict drawing.elements s samples t → r ≡ t }
+    ensures clear { (drawing : Drawing) (s : Posed) → Holds drawing.elements s → IsClear (question_of drawing.elements s) }
+    ensures one { (drawing : Drawing) (s : Posed) (r t : Found) → IsStatementVerdict drawing.elements s r → IsStatementVerdict drawing.elements s t → r ≡ t }
+    ensures of_questions { (q : Question) (r t : Found) → IsVerdict q (IsZeroEverywhere q) r → IsVerdict q (IsZeroEverywhere q) t → r ≡ t }
 {}

@@ -15,7 +15,7 @@ use Rattle.geo_sketch.proofs.ConstructionLaws.{at_named}
 use Rattle.geo_sketch.proofs.TableLaws.{place_within}
 use Rattle.geo_height.specs.Bounds.{AtStated}
 use Rattle.geo_height.specs.Capped.{statement_limit, within_limit, capped_sum, capped_product, capped_algebra, capped_statement}
-use Rattle.geo_height.proofs.LiveElements.{related, live_step}
+use Rattle.geo_sketch.proofs.LiveElements.{related, live_step}
 use Rattle.geo_height.proofs.HeightLaws.{constructed, positive, grows_left, grows_right}
 
 le_or_gt : (a b : ℕ) → (a ≤ b) ⊎ (b < a)

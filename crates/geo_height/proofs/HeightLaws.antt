@@ -22,7 +22,7 @@ use Rattle.geo_sketch.proofs.ConstructionLaws.{at_named, both_named}
 use Rattle.geo_sketch.proofs.HeightLaws.{construction, low}
 use Rattle.geo_height.specs.Bounds.{IsWithin, AreAtMost, AtStated}
 use Rattle.geo_height.specs.Capped.{statement_limit}
-use Rattle.geo_height.proofs.LiveElements.{related, live_step}
+use Rattle.geo_sketch.proofs.LiveElements.{related, live_step}
 
 -- a positive factor does not make less
 pub grows_right : (k h : ℕ) → 1 ≤ k → h ≤ k * h

@@ -1,3 +1,2 @@
-pub mod LiveElements
 pub mod HeightLaws
 mod CappedLaws

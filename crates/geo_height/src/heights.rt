@@ -8,7 +8,7 @@ ghost use Rattle.geo_height.specs.Bounds.{magnitude_of, AtStated};
 ghost use Rattle.geo_height.specs.Capped.{within_limit, capped_algebra, capped_statement};
 
 use crate::capped::{keep, plus, times};
-use geo_sketch::{Def, Element, Sketch, Statement};
+use geo_sketch::{Def, Element, Sketch, Statement, place_of};
 
 /// How many elements a sketch may hold.
 const ELEMENT_LIMIT: usize = 40;
@@ -105,18 +105,6 @@ fn height_at(elements: &[Element], heights: &[Option<u128>], number: u32) -> Opt
         Some(height) => *height,
         None => None,
     }
-}
-
-/// The place of the element with this number, or the list's length.
-fn place_of(elements: &[Element], number: u32) -> usize
-    ensures { result ≡ place elements.now number }
-{
-    for (i, element) in elements.iter().enumerate() {
-        if element.number == number {
-            return i;
-        }
-    }
-    elements.len()
 }
 
 /// The magnitude of a parameter.

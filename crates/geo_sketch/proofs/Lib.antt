@@ -14,3 +14,4 @@ pub mod RebuildLaws
 mod SampleTable
 pub mod TableLaws
 pub mod ValueLaws
+pub mod LiveElements

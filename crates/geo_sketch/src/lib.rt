@@ -27,6 +27,7 @@ pub use laws::{
     dual_twice, each_by_its_definition, fixed_by_what_it_depends_on, made_by_changes, others_stay,
     plain_statements_hold, taken_back_and_done_again,
 };
+pub use lookups::{find_by_number, place_of};
 pub use names::Name;
 pub use samples::sample_value;
 pub use sketches::Sketch;

@@ -21,8 +21,8 @@ pub(crate) fn find_by_name(elements: &[Element], name: &Name) -> Option<Element>
     None
 }
 
-/// The element with this number.
-pub(crate) fn find_by_number(elements: &[Element], number: u32) -> Option<Element>
+/// The element with this number, in a list by rising number.
+pub fn find_by_number(elements: &[Element], number: u32) -> Option<Element>
     ensures { result ≡ numbered elements.now number }
 {
     for element in elements {
@@ -35,7 +35,7 @@ pub(crate) fn find_by_number(elements: &[Element], number: u32) -> Option<Elemen
 
 /// The place of the element with this number, or the list's length where there
 /// is none.
-pub(crate) fn place_of(elements: &[Element], number: u32) -> usize
+pub fn place_of(elements: &[Element], number: u32) -> usize
     ensures place { result ≡ place elements.now number }
     ensures within { result ≤ length elements.now }
 {

@@ -1,7 +1,7 @@
 //! Which elements are named by other elements and by claims.
 
 ghost use Rattle.std.specs.Prelude.{◌≡◌};
-ghost use Rattle.geo_sketch.specs.Drops.{refers_to, some_refer_to, some_speak_of, speaks_of};
+ghost use Rattle.geo_sketch.specs.Drops.{refers_to, some_refer_to, some_speak_of};
 
 use crate::elements::{Def, Element};
 use crate::statements::Statement;
@@ -23,7 +23,7 @@ pub(crate) fn any_speaks_of(claims: &[Statement], n: u32) -> bool
     ensures { result ≡ some_speak_of claims.now n }
 {
     for claim in claims {
-        if speaks(claim, n) {
+        if claim.names(n) {
             return true;
         }
     }
@@ -37,15 +37,5 @@ fn refers(def: &Def, n: u32) -> bool
         Def::Free | Def::Fixed(_, _, _) => false,
         Def::Cut(k) => *k == n,
         Def::Blend(k, m) | Def::Cross(k, m) => *k == n || *m == n,
-    }
-}
-
-fn speaks(statement: &Statement, n: u32) -> bool
-    ensures { result ≡ speaks_of statement.now n }
-{
-    match statement {
-        Statement::Null(k) => *k == n,
-        Statement::Same(k, m) | Statement::On(k, m) => *k == n || *m == n,
-        Statement::Triple(k, m, l) => *k == n || *m == n || *l == n,
     }
 }

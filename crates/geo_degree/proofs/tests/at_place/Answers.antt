@@ -1,4 +1,4 @@
-use Rattle.geo_height.proofs.LiveElements.{live_at}
+use Rattle.geo_sketch.proofs.LiveElements.{live_at}
 use Rattle.geo_degree.proofs.tests.at_place.Goals as goal
 
 pub of_element-requires : goal.of_element-requires

@@ -1,4 +1,4 @@
-use Rattle.geo_height.proofs.LiveElements.{live_at}
+use Rattle.geo_sketch.proofs.LiveElements.{live_at}
 use Rattle.geo_height.proofs.tests.at_place.Goals as goal
 
 pub height-requires : goal.height-requires

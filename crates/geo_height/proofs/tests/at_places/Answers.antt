@@ -1,6 +1,6 @@
 use Rattle.std.proofs.Common.{ℕ, ◌<◌, length}
 use Rattle.geo_sketch.specs.declared.elements.Element.{Element}
-use Rattle.geo_height.proofs.LiveElements.{live_at}
+use Rattle.geo_sketch.proofs.LiveElements.{live_at}
 use Rattle.geo_height.proofs.tests.at_places.Goals as goal
 
 pub of_statement-requires : goal.of_statement-requires

@@ -1,0 +1,81 @@
+-- What is asked: whether some parts, which are whole numbers that depend on the values
+-- of some axes, are all 0. A statement asks so of its parts.
+use Rattle.std.specs.Prelude.{◌≡◌, ℕ, ◌+◌, ◌*◌, ◌<◌, ◌≤◌, ◌^◌, ℤ, pos, unsigned_abs, List, length, map, slice_index_or, slice_set, All}
+use Rattle.std.specs.List.{AllZip}
+use Rattle.geo_law.specs.Coefficients.{value_at}
+use Rattle.geo_sketch.specs.Samples.{sample_value}
+use Rattle.geo_sketch.specs.Sketches.{number_limit}
+use Rattle.geo_sketch.specs.Triples.{AreZero}
+use Rattle.geo_height.specs.Capped.{statement_limit}
+use Rattle.geo_degree.specs.declared.grids.Axis.{Axis}
+use Rattle.geo_degree.specs.Grids.{Block, axis_magnitude, grid_of, grid_point, grid_size, values_on}
+
+-- its axes; at a list of values, one for each axis, its parts; for such a list, the number
+-- of a part and the place of an axis, the coefficients of that part in that axis, all
+-- others fixed; and its height at a list of magnitudes, one for each axis
+pub record Question : Type 0 where
+  pub axes : List Axis
+  pub parts_at : List ℤ → List ℤ
+  pub coefficients : List ℤ → ℕ → ℕ → List ℤ
+  pub height_at : List ℕ → ℕ
+
+-- part number k at a list of values; 0 where there are fewer parts
+abbrev pub part : Question → ℕ → List ℤ → ℤ
+part q k xs = slice_index_or (q.parts_at xs) k (pos 0)
+
+-- all parts are 0 at these values of the axes
+abbrev pub IsZeroAt : Question → List ℤ → Type 0
+IsZeroAt q xs = AreZero (q.parts_at xs)
+
+-- all parts are 0 at all whole-number values of the axes
+abbrev pub IsZeroEverywhere : Question → Type 0
+IsZeroEverywhere q = (xs : List ℤ) → length xs ≡ length q.axes → IsZeroAt q xs
+
+-- ---- the laws of a question that a grid can answer
+pub record IsForm (q : Question) : Type 0 where
+  -- each axis is a parameter that a sketch may have, and its degree is above 0
+  pub parameters : All (λ (a : Axis). (a.param < 2 * number_limit) × (0 < a.degree)) q.axes
+  -- with the values of all other axes fixed, a part is the value of its coefficients
+  pub agrees : (xs : List ℤ) (k place : ℕ) (x : ℤ) → length xs ≡ length q.axes → place < length q.axes → part q k (slice_set xs place x) ≡ value_at (q.coefficients xs k place) x
+  -- of which there are at most degree + 1
+  pub short : (xs : List ℤ) (k place : ℕ) (a : Axis) → length xs ≡ length q.axes → place < length q.axes → length (q.coefficients xs k place) ≤ (slice_index_or q.axes place a).degree + 1
+  -- the height bounds each part, at magnitudes that bound the values
+  pub bounded : (xs : List ℤ) (ms : List ℕ) (k : ℕ) → length xs ≡ length q.axes → AllZip (λ x m. unsigned_abs x ≤ m) xs ms → unsigned_abs (part q k xs) ≤ q.height_at ms
+  -- it is within the limit at magnitude 3
+  pub modest : q.height_at (map (λ (a : Axis). 3) q.axes) ≤ statement_limit
+  -- and does not fall where a magnitude grows
+  pub rises : (ms ns : List ℕ) → length ms ≡ length q.axes → AllZip (λ m n. m ≤ n) ms ns → q.height_at ms ≤ q.height_at ns
+
+-- ---- on its grid, whose blocks its axes make
+abbrev pub blocks : Question → List Block
+blocks q = grid_of q.axes
+
+-- the values at point i
+abbrev pub point : Question → ℕ → List ℤ
+point q i = grid_point (blocks q) i
+
+abbrev pub size_limit : ℕ
+size_limit = 2 ^ 20
+
+abbrev pub grid_magnitudes : Question → List ℕ
+grid_magnitudes q = map axis_magnitude q.axes
+
+-- the grid has few enough points, and numbers on it are small enough
+pub record IsWithinLimits (q : Question) : Type 0 where
+  pub size : grid_size (blocks q) ≤ size_limit
+  pub height : q.height_at (grid_magnitudes q) ≤ statement_limit
+
+-- all parts are 0 at every grid point
+abbrev pub IsClear : Question → Type 0
+IsClear q = (i : ℕ) → i < grid_size (blocks q) → IsZeroAt q (point q i)
+
+-- i is the least index at which a part is not 0
+pub record IsLeastFailing (q : Question) (i : ℕ) : Type 0 where
+  pub within : i < grid_size (blocks q)
+  pub fails : ¬ IsZeroAt q (point q i)
+  pub least : (j : ℕ) → j < i → IsZeroAt q (point q j)
+
+-- ---- at the sample positions
+-- the values of the axes at position s
+abbrev pub sample : Question → ℕ → List ℤ
+sample q s = values_on q.axes (sample_value s)
