@@ -1,0 +1,37 @@
+-- The axes of the first so many elements, and the numbers of elements in a sketch.
+use Rattle.std.proofs.Common.{◌≡◌, ◌∙◌, sym, ap, refl, ℕ, ◌+◌, ◌<◌, List, [], ◌∷◌, ◌++◌, length, get_or, take, append_assoc, arith}
+use Rattle.std.specs.Prelude.{nat_lt}
+use Rattle.std.proofs.lemmas.Bool.{cond_both}
+use Rattle.std.proofs.lemmas.List.{append-nil, take_more}
+use Rattle.geo_sketch.specs.declared.elements.Element.{Element}
+use Rattle.geo_sketch.specs.Sketches.{Drawing, IsDrawn, number_limit}
+use Rattle.geo_sketch.proofs.TableLaws.{number_at}
+use Rattle.geo_degree.specs.Grids.{axes_among, axis, own_parameters, parameters_of}
+
+axes_among-append : (degree : ℕ → ℕ) (ps qs : List ℕ) → axes_among degree (ps ++ qs) ≡ axes_among degree ps ++ axes_among degree qs
+axes_among-append degree [] qs = refl
+axes_among-append degree (p ∷ ps) qs =
+    let rest = axes_among-append degree ps qs in
+    cond_both (nat_lt 0 (degree p)) (axis p (degree p) ∷ axes_among degree ps) (axes_among degree ps) (λ axes. axes_among degree (p ∷ ps ++ qs) ≡ axes ++ axes_among degree qs)
+    (λ t. rw t (ap (λ axes. axis p (degree p) ∷ axes) rest))
+    (λ t. rw t rest)
+
+parameters_of-append : (es fs : List Element) → parameters_of (es ++ fs) ≡ parameters_of es ++ parameters_of fs
+parameters_of-append [] fs = refl
+parameters_of-append (e ∷ es) fs = ap (λ ps. own_parameters e.number e.def ++ ps) (parameters_of-append es fs) ∙ sym (append_assoc (own_parameters e.number e.def) (parameters_of es) (parameters_of fs))
+
+-- one more element
+pub axes_more : (degree : ℕ → ℕ) (es : List Element) (i : ℕ) (x : Element) → i < length es → x ≡ get_or es i x → axes_among degree (parameters_of (take (i + 1) es)) ≡ axes_among degree (parameters_of (take i es)) ++ axes_among degree (own_parameters x.number x.def)
+axes_more degree es i x within same =
+    let more : take (i + 1) es ≡ take i es ++ x ∷ [] = take_more es i x within ∙ ap (λ (y : Element). take i es ++ y ∷ []) (sym same) in
+    let own : parameters_of (x ∷ []) ≡ own_parameters x.number x.def = append-nil (own_parameters x.number x.def) in
+    ap (λ xs. axes_among degree (parameters_of xs)) more
+    ∙ ap (axes_among degree) (parameters_of-append (take i es) (x ∷ []) ∙ ap (λ ps. parameters_of (take i es) ++ ps) own)
+    ∙ axes_among-append degree (parameters_of (take i es)) (own_parameters x.number x.def)
+
+-- numbers are below the limit
+pub number_low : (drawing : Drawing) (i : ℕ) (x : Element) → IsDrawn drawing → i < length drawing.elements → x ≡ get_or drawing.elements i x → x.number < number_limit
+number_low drawing i x drawn within same =
+    let there = number_at 0 drawing.elements i x drawn.rising within in
+    let given : (get_or drawing.elements i x).number < length drawing.settings = drawn.given _ _ there.0 in
+    omega (arith, given, drawn.numbers_room, ap (λ (y : Element). y.number) same)

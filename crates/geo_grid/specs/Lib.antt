@@ -1,0 +1,10 @@
+pub mod Values
+pub mod Walks
+pub mod Products
+pub mod ProductLaws
+pub mod Plans
+pub mod Nodes
+pub mod Orders
+pub mod Codes
+pub mod Works
+pub mod Pairs

@@ -1,0 +1,77 @@
+//! One step of a plan.
+
+ghost use Rattle.std.specs.Prelude.{◌≡◌, ◌≤◌, ◌+◌, length, pos};
+ghost use Rattle.geo_height.specs.Capped.{statement_limit};
+ghost use Rattle.geo_sketch.specs.Triples.{of_coordinates};
+ghost use Rattle.geo_grid.specs.Nodes.{IsInside, axis_value, node_height, node_triple};
+
+use geo_triple::{Steps, Triple, blend, cross, cut};
+use std::sync::ledger::Ledger;
+
+/// How the triple of an element is computed. Operands stand by their places in the list
+/// of the triples, and values by the places of their axes: past the last axis, the value
+/// is 0.
+#[derive(Clone, Copy)]
+pub(crate) enum Node {
+    Free {
+        x: usize,
+        y: usize,
+    },
+    Fixed(Triple),
+    Cut {
+        of: usize,
+        by: usize,
+    },
+    Blend {
+        first: usize,
+        second: usize,
+        by: usize,
+    },
+    Cross {
+        first: usize,
+        second: usize,
+    },
+}
+
+/// Evaluates an element: the only way to an evaluation, which ticks once.
+pub(crate) fn evaluate_node<L: Ledger>(
+    node: &Node,
+    triples: &[Triple],
+    values: &[i64],
+    steps: &mut Steps<L>,
+) -> Triple
+    requires inside { IsInside node.now (length triples.now) }
+    requires low { node_height node.now triples.now values.now ≤ statement_limit }
+    ensures value { result ≡ node_triple node.now triples.now values.now }
+    ensures tick { steps.new ≡ steps.old + 1 }
+{
+    steps.tick();
+    match node {
+        Node::Free { x, y } => free(value_at(values, *x), value_at(values, *y)),
+        Node::Fixed(triple) => *triple,
+        Node::Cut { of, by } => cut(&triples[*of], value_at(values, *by)),
+        Node::Blend { first, second, by } => {
+            blend(&triples[*first], &triples[*second], value_at(values, *by))
+        }
+        Node::Cross { first, second } => cross(&triples[*first], &triples[*second]),
+    }
+}
+
+fn value_at(values: &[i64], place: usize) -> i64
+    ensures { result ≡ axis_value values.now place }
+{
+    match values.get(place) {
+        Some(value) => *value,
+        None => 0,
+    }
+}
+
+fn free(x: i64, y: i64) -> Triple
+    ensures { result ≡ of_coordinates x y (pos 1) }
+{
+    Triple {
+        a: i128::from(x),
+        b: i128::from(y),
+        c: 1,
+    }
+}

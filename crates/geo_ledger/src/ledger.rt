@@ -1,0 +1,147 @@
+//! A ledger, which keeps the verdicts that were found.
+
+ghost use Rattle.std.specs.Prelude.{◌≡◌, ◌≤◌, ◌<◌, [], false, filter, not, Contains, IfOk, OnOk};
+ghost use Rattle.std.specs.Borrow.{sem};
+ghost use Rattle.indexmap.specs.IndexMap.{ContainsKey};
+ghost use Rattle.geo_sketch.specs.Drops.{speaks_of};
+ghost use Rattle.geo_sketch.specs.Sketches.{IsPosed};
+ghost use Rattle.geo_degree.specs.Verdicts.{IsStatementVerdict};
+ghost use Rattle.geo_ledger.specs.Ledgers.{AreKept, IsLedger};
+ghost use Rattle.geo_ledger.specs.Lending.{StaysRight};
+
+use crate::copies::copy_verdict;
+use crate::entry::Entry;
+use crate::settling::settle_in;
+use geo_sketch::{NoMemory, Sketch, Statement, Verdict};
+use indexmap::IndexMap;
+use std::alloc::Global;
+use std::marker::Model;
+
+/// The verdicts that were found in a sketch, kept from one ledger to the next.
+/// Contracts see the kept statements with their verdicts.
+#[derive(Drop)]
+pub struct Ledger {
+    kept: IndexMap<Statement, Verdict>,
+    /// The ledger as it was last asked for.
+    list: Vec<Entry>,
+}
+
+impl Model for Ledger {
+    ghost use Rattle.std.specs.Prelude.{List};
+    ghost use Rattle.geo_sketch.specs.declared.statements.Statement.{Statement as Posed};
+    ghost use Rattle.geo_sketch.specs.declared.verdicts.Verdict.{Verdict as Found};
+
+    ghost Value = { List (Posed × Found) };
+
+    ghost view = { λ l. l.kept.entries };
+}
+
+impl Ledger {
+    /// A ledger that keeps nothing.
+    pub fn new(alloc: Global) -> Ledger
+        ensures { result ≡ [] }
+    {
+        Ledger {
+            kept: IndexMap::new(alloc),
+            list: Vec::new(alloc),
+        }
+    }
+
+    /// The ledger of the sketch: its claims in the order of claiming, each with its
+    /// verdict. A verdict that is kept is not found again. The number of workers has no
+    /// effect yet.
+    pub fn entries(
+        &mut self,
+        alloc: Global,
+        sketch: &Sketch,
+        workers: u64,
+    ) -> Result<&[Entry], NoMemory>
+        requires workers { (0 < workers) × (workers ≤ 16) }
+        requires kept { AreKept sketch.now self.old }
+        ensures entries { IfOk result (λ entries. IsLedger sketch.now entries.now) }
+        ensures* kept { sem 𝓛 (StaysRight sketch.now self.entry) }
+    {
+        self.list.clear();
+        for claim in sketch.claims() {
+            keep(&mut self.kept, alloc, sketch, claim, workers)?;
+            let entry = entry_of(alloc, &self.kept, claim)?;
+            if self.list.push(entry).is_err() {
+                return Err(NoMemory);
+            }
+        }
+        Ok(&self.list)
+    }
+
+    /// The verdict of a statement. One that is kept is not found again. The number of
+    /// workers has no effect yet.
+    pub fn verdict(
+        &mut self,
+        alloc: Global,
+        sketch: &Sketch,
+        s: &Statement,
+        workers: u64,
+    ) -> Result<&Verdict, NoMemory>
+        requires workers { (0 < workers) × (workers ≤ 16) }
+        requires posed { IsPosed sketch.now.elements s.now }
+        requires kept { AreKept sketch.now self.old }
+        ensures verdict { IfOk result (λ r. IsStatementVerdict sketch.now.elements s.now r.now) }
+        ensures* kept { sem 𝓛 (StaysRight sketch.now self.entry) }
+    {
+        keep(&mut self.kept, alloc, sketch, s, workers)?;
+        match self.kept.get(s) {
+            Some(verdict) => Ok(verdict),
+            None => unreachable!(),
+        }
+    }
+
+    /// Lets go of exactly the verdicts whose statements name element n. It takes no
+    /// memory.
+    pub fn forget(&mut self, n: u32)
+        ensures { self.new ≡ filter (λ e. not (speaks_of e.0 n)) self.old }
+    {
+        self.kept.retain(|s, _| !s.names(n));
+    }
+}
+
+/// Finds the verdict of a statement, unless it is kept.
+fn keep(
+    kept: &mut IndexMap<Statement, Verdict>,
+    alloc: Global,
+    sketch: &Sketch,
+    s: &Statement,
+    workers: u64,
+) -> Result<(), NoMemory>
+    requires workers { (0 < workers) × (workers ≤ 16) }
+    requires posed { IsPosed sketch.now.elements s.now }
+    requires kept { AreKept sketch.now kept.old.entries }
+    ensures kept { AreKept sketch.now kept.new.entries }
+    ensures there { OnOk result (ContainsKey ⟦<Statement as PartialEq>⟧.eq kept.new s.now) }
+{
+    if kept.contains_key(s) {
+        return Ok(());
+    }
+    let verdict = settle_in(alloc, sketch, s, workers)?;
+    match kept.insert(*s, verdict) {
+        Ok(_) => Ok(()),
+        Err(_) => Err(NoMemory),
+    }
+}
+
+/// What the ledger says of a claim, from what is kept.
+fn entry_of(
+    alloc: Global,
+    kept: &IndexMap<Statement, Verdict>,
+    claim: &Statement,
+) -> Result<Entry, NoMemory>
+    requires { ContainsKey ⟦<Statement as PartialEq>⟧.eq kept.now claim.now }
+    ensures { IfOk result (λ e. (e.statement ≡ claim.now) × (e.guessed ≡ false) × Contains kept.now.entries (claim.now, e.verdict)) }
+{
+    match kept.get(claim) {
+        Some(verdict) => Ok(Entry {
+            statement: *claim,
+            guessed: false,
+            verdict: copy_verdict(alloc, verdict)?,
+        }),
+        None => unreachable!(),
+    }
+}

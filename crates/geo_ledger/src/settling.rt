@@ -1,0 +1,28 @@
+//! Finding the verdict of a statement anew.
+
+ghost use Rattle.std.specs.Prelude.{◌≤◌, ◌<◌, IfOk};
+ghost use Rattle.geo_sketch.specs.Sketches.{IsPosed};
+ghost use Rattle.geo_degree.specs.Verdicts.{IsStatementVerdict};
+
+use geo_degree::holds_by_the_axes_alone;
+use geo_grid::Posed;
+use geo_settle::settle;
+use geo_sketch::{NoMemory, Sketch, Statement, Verdict};
+use std::alloc::Global;
+
+/// The verdict of a statement in a sketch. The number of workers has no effect yet.
+pub(crate) fn settle_in(
+    alloc: Global,
+    sketch: &Sketch,
+    s: &Statement,
+    workers: u64,
+) -> Result<Verdict, NoMemory>
+    requires workers { (0 < workers) × (workers ≤ 16) }
+    requires posed { IsPosed sketch.now.elements s.now }
+    ensures { IfOk result (λ r. IsStatementVerdict sketch.now.elements s.now r) }
+{
+    holds_by_the_axes_alone();
+    let _drawn = sketch.elements();
+    let posed = Posed::new(alloc, sketch, *s)?;
+    settle(alloc, &posed, workers)
+}

@@ -1,0 +1,3 @@
+pub mod AxisValues
+pub mod FoundVerdicts
+pub mod PartLaws

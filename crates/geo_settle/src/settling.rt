@@ -1,0 +1,60 @@
+//! The verdict on a form.
+
+ghost use Rattle.std.specs.Prelude.{◌≡◌, ◌<◌, ◌≤◌, IfOk};
+ghost use Rattle.geo_degree.specs.Questions.{IsWithinLimits, IsZeroEverywhere, blocks};
+ghost use Rattle.geo_degree.specs.Verdicts.{IsGridVerdict, IsPast, IsSampleVerdict, IsVerdict};
+
+use crate::bench::{Bench, First};
+use crate::parts::zero_everywhere;
+use crate::samples::failing_sample;
+use crate::values::values_at;
+use geo_grid::{Form, Grid, GridStop};
+use geo_sketch::{NoMemory, Past, Verdict};
+use std::alloc::Global;
+
+/// The verdict on what a form asks. Where its grid is within the limits, it is searched:
+/// what is 0 at all its points is 0 everywhere. Elsewhere eight samples are tried, which
+/// prove nothing. The method is that of Zhang, Yang and Deng (1990). The number of workers
+/// has no effect yet.
+pub fn settle<F: Form + Sync>(alloc: Global, form: &F, workers: u64) -> Result<Verdict, NoMemory>
+    requires { (0 < workers) × (workers ≤ 16) }
+    ensures { IfOk result (λ r. IsVerdict (F.question form.now) (IsZeroEverywhere (F.question form.now)) r) }
+{
+    match Grid::of(alloc, form) {
+        Ok(grid) => verdict_on_grid(alloc, form, &grid, workers),
+        Err(GridStop::Past(past)) => verdict_at_samples(alloc, form, past),
+        Err(GridStop::NoMemory) => Err(NoMemory),
+    }
+}
+
+/// The verdict on a form whose grid is within the limits.
+fn verdict_on_grid<F: Form + Sync>(
+    alloc: Global,
+    form: &F,
+    grid: &Grid,
+    workers: u64,
+) -> Result<Verdict, NoMemory>
+    requires grid { grid.now ≡ blocks (F.question form.now) }
+    requires within { IsWithinLimits (F.question form.now) }
+    requires workers { (0 < workers) × (workers ≤ 16) }
+    ensures { IfOk result (λ r. IsGridVerdict (F.question form.now) (IsZeroEverywhere (F.question form.now)) r) }
+{
+    match Bench::prepare(alloc, form, grid, workers)?.run() {
+        First::Clear => {
+            zero_everywhere(form);
+            Ok(Verdict::Proved)
+        }
+        First::At(index) => Ok(Verdict::False(values_at(alloc, form, grid, index)?)),
+    }
+}
+
+/// The verdict on a form whose grid passes a limit.
+fn verdict_at_samples<F: Form>(alloc: Global, form: &F, past: Past) -> Result<Verdict, NoMemory>
+    requires { IsPast (F.question form.now) past }
+    ensures { IfOk result (λ r. IsSampleVerdict (F.question form.now) r) }
+{
+    match failing_sample(alloc, form)? {
+        Some(values) => Ok(Verdict::False(values)),
+        None => Ok(Verdict::Unsettled(past)),
+    }
+}
