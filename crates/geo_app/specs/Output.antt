@@ -1,11 +1,16 @@
 -- What the program writes for the bytes of a script.
-use Rattle.std.specs.Prelude.{◌≡◌, ℕ, Bool, true, List}
+use Rattle.std.specs.Prelude.{◌≡◌, ℕ, true, List}
 use Rattle.geo_io.specs.Lines.{lines_of}
-use Rattle.geo_session.specs.Answers.{start, script_reply, has_refusal}
+use Rattle.geo_degree.specs.Verdicts.{Verdicts}
+use Rattle.geo_session.specs.Answers.{Text, start, script_reply, has_refusal, texts_of}
 
--- the replies to its lines, one after the other
-abbrev pub output_of : List ℕ → List ℕ
-output_of bytes = script_reply start (lines_of bytes)
+-- the texts that its lines ask for, one after the other
+abbrev pub output_texts : List ℕ → List Text
+output_texts bytes = texts_of start (lines_of bytes)
+
+-- their bytes, by the verdict of each statement
+abbrev pub output_of : Verdicts → List ℕ → List ℕ
+output_of verdict_of bytes = script_reply verdict_of start (lines_of bytes)
 
 -- a line is refused
 abbrev pub HasRefusal : List ℕ → Type 0

@@ -2,6 +2,8 @@
 //! draws.
 #![tactic(auto)]
 
+#[cfg(test)]
+mod ledgers;
 mod program;
 #[cfg(test)]
 mod rows;

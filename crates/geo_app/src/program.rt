@@ -2,11 +2,16 @@
 //! that are written.
 
 ghost use Rattle.std.specs.Prelude.{◌≡◌, ℕ, List, ◌≤◌, ◌^◌, ◌↔◌, ◌⊎◌, length, Some, true};
+ghost use Rattle.std.specs.List.{AllByRecursion};
 ghost use Rattle.geo_io.specs.Faults.{Rose};
+ghost use Rattle.geo_degree.specs.Verdicts.{AreRight, Verdicts};
+ghost use Rattle.geo_session.specs.Truth.{IsTrueText};
+ghost use Rattle.geo_app.specs.Output.{output_texts};
 ghost use Rattle.geo_app.specs.Outcomes.{status_of, IsForm, IsAnswered, IsStopped, IsTooLongExactly, Answers, Stops};
 
 use crate::script::run_script;
 use geo_io::{LineEnd, Sink, SinkEnd, Source, SureSink, SureSource, read_all};
+use geo_session::ledgers_are_true;
 use std::alloc::Global;
 
 /// How the program ends; the exit statuses are 0 to 6 in this order.
@@ -57,13 +62,16 @@ pub fn run_program<S: Source, K: Sink>(
 ) -> Outcome
     ensures usage { (result ≡ Outcome.Usage) ↔ (IsForm words.now → ⊥) }
     ensures untouched { result ≡ Outcome.Usage → (source.new ≡ source.old) × (sink.new ≡ sink.old) }
-    ensures answers { IsAnswered result → (bytes held : List ℕ) → S.left source.old ≡ Some bytes → K.held sink.old ≡ Some held → Answers result bytes held (S.left source.new) (K.held sink.new) }
-    ensures stops { IsStopped result → (bytes held : List ℕ) → S.left source.old ≡ Some bytes → K.held sink.old ≡ Some held → Stops bytes held (S.left source.new) (K.held sink.new) }
+    ensures answers { IsAnswered result → (verdict_of : Verdicts) → AreRight verdict_of → (bytes held : List ℕ) → S.left source.old ≡ Some bytes → K.held sink.old ≡ Some held → Answers verdict_of result bytes held (S.left source.new) (K.held sink.new) }
+    ensures stops { IsStopped result → (verdict_of : Verdicts) → AreRight verdict_of → (bytes held : List ℕ) → S.left source.old ≡ Some bytes → K.held sink.old ≡ Some held → Stops verdict_of bytes held (S.left source.new) (K.held sink.new) }
+    ensures right_verdicts { (verdict_of : Verdicts) × AreRight verdict_of }
+    ensures true_ledgers { (verdict_of : Verdicts) → AreRight verdict_of → (bytes : List ℕ) → AllByRecursion (IsTrueText verdict_of) (output_texts bytes) }
     ensures read_fault { result ≡ Outcome.ReadFault → Rose (S.fault_count source.old) (S.fault_count source.new) }
     ensures write_fault { result ≡ Outcome.WriteFault → Rose (K.fault_count sink.old) (K.fault_count sink.new) }
     ensures too_long { IsTooLongExactly result (S.left source.old) (S.left source.new) }
     ensures complete { IsForm words.now → (bytes : List ℕ) → S.left source.old ≡ Some bytes → length bytes ≤ 2 ^ 24 → (Rose (S.fault_count source.old) (S.fault_count source.new) → ⊥) → (Rose (K.fault_count sink.old) (K.fault_count sink.new) → ⊥) → IsAnswered result ⊎ (result ≡ Outcome.NoMemory) }
 {
+    ledgers_are_true();
     if !is_run(words) {
         return Outcome::Usage;
     }
@@ -89,8 +97,10 @@ pub fn run_in_memory(
 ) -> Outcome
     ensures usage { (result ≡ Outcome.Usage) ↔ (IsForm words.now → ⊥) }
     ensures untouched { result ≡ Outcome.Usage → (source.new ≡ source.old) × (sink.new ≡ sink.old) }
-    ensures answers { IsAnswered result → Answers result source.old sink.old (Some source.new) (Some sink.new) }
-    ensures stops { IsStopped result → Stops source.old sink.old (Some source.new) (Some sink.new) }
+    ensures answers { IsAnswered result → (verdict_of : Verdicts) → AreRight verdict_of → Answers verdict_of result source.old sink.old (Some source.new) (Some sink.new) }
+    ensures stops { IsStopped result → (verdict_of : Verdicts) → AreRight verdict_of → Stops verdict_of source.old sink.old (Some source.new) (Some sink.new) }
+    ensures right_verdicts { (verdict_of : Verdicts) × AreRight verdict_of }
+    ensures true_ledgers { (verdict_of : Verdicts) → AreRight verdict_of → (bytes : List ℕ) → AllByRecursion (IsTrueText verdict_of) (output_texts bytes) }
     ensures sure { (result ≡ Outcome.ReadFault → ⊥) × (result ≡ Outcome.WriteFault → ⊥) }
     ensures too_long { IsTooLongExactly result (Some source.old) (Some source.new) }
     ensures complete { IsForm words.now → length source.old ≤ 2 ^ 24 → IsAnswered result ⊎ (result ≡ Outcome.NoMemory) }

@@ -1,12 +1,11 @@
 -- The screen's text grows by the line of the next element.
-use Rattle.std.proofs.Common.{◌≡◌, ◌∙◌, sym, ap, refl, ℕ, ◌+◌, ◌<◌, ◌++◌, List, [], ◌∷◌, length, get_or, map, take, append_assoc}
-use Rattle.std.specs.Prelude.{flat_map}
+use Rattle.std.proofs.Common.{◌≡◌, ◌∙◌, ap, refl, ℕ, ◌+◌, ◌<◌, ◌++◌, List, [], ◌∷◌, length, get_or, map, take, append_assoc}
 use Rattle.std.proofs.lemmas.List.{take_more, map-append, append-nil, get_or-map}
 use Rattle.geo_eval.specs.declared.here.Here.{Here}
 use Rattle.std.proofs.lemmas.Grind.{flat_map-append}
 use Rattle.geo_sketch.specs.declared.elements.Element.{Element}
 use Rattle.geo_sketch.specs.Sketches.{Drawing}
-use Rattle.geo_eval.specs.Shown.{Shown, shown}
+use Rattle.geo_eval.specs.Shown.{shown}
 use Rattle.geo_session.specs.Texts.{screen_line, screen_text}
 
 pub screen_more : (drawing : Drawing) (i : ℕ) (x : Element) → i < length drawing.elements → screen_text (map (shown drawing) (take (i + 1) drawing.elements)) ≡ screen_text (map (shown drawing) (take i drawing.elements)) ++ screen_line (shown drawing (get_or drawing.elements i x))

@@ -1,6 +1,6 @@
 -- How a line moves a session on.
 use Rattle.std.proofs.Common.{◌≡◌, ◌∙◌, sym, ap, refl, ℕ, ◌++◌, List, [], ◌∷◌, length, length-append, arith}
-use Rattle.std.specs.Prelude.{Result, Ok, Err, IfOk, Option, None, Some, min, ◌+◌, ◌-◌, ◌^◌, take}
+use Rattle.std.specs.Prelude.{Result, Ok, Err, IfOk, Some, min, ◌+◌, ◌-◌, ◌^◌}
 use Rattle.std.proofs.lemmas.List.{take_at}
 use Rattle.geo_sketch.specs.declared.changes.Delta.{Delta}
 use Rattle.geo_sketch.specs.declared.changes.NoMemory.{NoMemory}
@@ -24,7 +24,7 @@ last_is [] d = refl
 last_is (e ∷ []) d = refl
 last_is (e ∷ f ∷ ds) d = last_is (f ∷ ds) d
 
-front_is : (ds : List Delta) (d : Delta) → all_but_last (ds ++ d ∷ []) ≡ ds
+pub front_is : (ds : List Delta) (d : Delta) → all_but_last (ds ++ d ∷ []) ≡ ds
 front_is ds d = take_at ds (d ∷ []) (length (ds ++ d ∷ []) - 1) (omega (arith, length-append ds (d ∷ [])))
 
 module _ (old new : Session) (before after : List ℕ) (count : new.count ≡ old.count) (spent : new.spent ≡ old.spent) where
@@ -42,7 +42,7 @@ module _ (old new : Session) (before after : List ℕ) (count : new.count ≡ ol
       let outcome : make (drawing_of state) ≡ Ok d = ap make (sym stands.sketch) ∙ made in
       rw outcome record {
         reply_is = h.0;
-        appends = h.1;
+        appends = λ verdict_of right. h.1;
         stands = record {
           sketch = new_sketch ∙ ap (λ (drawing : Drawing). applied drawing d) stands.sketch ∙ sym (made_both blank state.done (d ∷ []));
           done = ap (λ t. t.done) noted ∙ ap (λ ds. ds ++ d ∷ []) stands.done;
@@ -61,7 +61,7 @@ module _ (old new : Session) (before after : List ℕ) (count : new.count ≡ ol
       let front : all_but_last state.done ≡ new.history.done = ap all_but_last done ∙ front_is new.history.done d in
       rw last record {
         reply_is = h.0;
-        appends = h.1;
+        appends = λ verdict_of right. h.1;
         stands = record {
           sketch = new_sketch ∙ ap made_of (sym front);
           done = sym front;
@@ -79,7 +79,7 @@ module _ (old new : Session) (before after : List ℕ) (count : new.count ≡ ol
       let done : state.done ++ d ∷ [] ≡ new.history.done = ap (λ ds. ds ++ d ∷ []) (sym stands.done) ∙ sym redoes.done in
       rw undone record {
         reply_is = h.0;
-        appends = h.1;
+        appends = λ verdict_of right. h.1;
         stands = record {
           sketch = new_sketch ∙ ap made_of (sym done);
           done = sym done;

@@ -1,8 +1,9 @@
 -- What a session has to do with the state that it stands for.
-use Rattle.std.specs.Prelude.{◌≡◌, ℕ, List, ◌++◌, Bool, true, false}
+use Rattle.std.specs.Prelude.{◌≡◌, ℕ, List, ◌++◌, true, false}
 use Rattle.geo_session.specs.declared.state.Reply.{Reply}
 use Rattle.geo_session.specs.declared.state.Session.{Session}
-use Rattle.geo_session.specs.Answers.{State, Answer, drawing_of}
+use Rattle.geo_degree.specs.Verdicts.{Verdicts, AreRight}
+use Rattle.geo_session.specs.Answers.{State, Answer, Text, bytes_of, drawing_of}
 
 -- the session is at this state
 pub record StandsFor (session : Session) (state : State) : Type 0 where
@@ -12,10 +13,14 @@ pub record StandsFor (session : Session) (state : State) : Type 0 where
   pub count : session.count ≡ state.count
   pub able : session.spent ≡ false
 
+-- the bytes of a text were appended, where each statement has its right verdict
+abbrev pub IsAppended : Text → List ℕ → List ℕ → Type 0
+IsAppended text before after = (verdict_of : Verdicts) → AreRight verdict_of → after ≡ before ++ bytes_of verdict_of text
+
 -- it gave this answer: the reply, the bytes that were appended, and the next state
 pub record Gives (answer : Answer) (reply : Reply) (before after : List ℕ) (session : Session) : Type 0 where
   pub reply_is : reply ≡ answer.reply
-  pub appends : after ≡ before ++ answer.bytes
+  pub appends : IsAppended answer.text before after
   pub stands : StandsFor session answer.next
 
 -- memory was wanting, and no line is answered from then on

@@ -1,4 +1,4 @@
--- The texts of replies.
+-- The texts of the screen, and of what is acknowledged or refused.
 use Rattle.std.specs.Prelude.{ℕ, ◌++◌, List, flat_map, codes}
 use Rattle.std.specs.Fmt.{decimal, signed_decimal}
 use Rattle.geo_sketch.specs.declared.elements.Kind.{Kind}

@@ -1,15 +1,19 @@
 //! A session: a sketch with its history, and how many lines were read.
 
 ghost use Rattle.std.specs.Prelude.{◌≡◌, ◌++◌, IfOk, OnErr, IsErr, false};
+ghost use Rattle.geo_degree.specs.Verdicts.{AreRight, Verdicts};
 ghost use Rattle.geo_parse.specs.Printing.{IsWritable};
 ghost use Rattle.geo_parse.specs.Reading.{read_of};
-ghost use Rattle.geo_session.specs.Answers.{State, start, answer_of, answer_by, answer_to, refused};
+ghost use Rattle.geo_session.specs.Answers.{State, Text, start, answer_of, answer_by, answer_to, drawing_of, refused, written};
 ghost use Rattle.geo_session.specs.Standing.{StandsFor, Gives, IsSpent};
+ghost use Rattle.geo_session.specs.Truth.{IsTrueText};
 ghost use Rattle.geo_session.specs.Texts.{ok_line};
 
+use crate::ledger_texts::write_ledger;
 use crate::state::{Reply, Session};
 use crate::texts::{write_refusal, write_screen};
 use geo_eval::Scene;
+use geo_ledger::Ledger;
 use geo_parse::{Command, read_line};
 use geo_sketch::{NoMemory, Refusal, Sketch};
 use geo_undo::History;
@@ -24,6 +28,7 @@ impl Session {
             sketch: Sketch::new(alloc),
             history: History::new(alloc),
             scene: Scene::new(alloc),
+            ledger: Ledger::new(alloc),
             count: 0,
             spent: false,
         })
@@ -34,12 +39,14 @@ impl Session {
     /// every later line, and what was appended may be a part of the reply.
     pub fn line(&mut self, alloc: Global, line: &[u8], out: &mut Vec<u8>) -> Result<Reply, NoMemory>
         ensures answer { IfOk result (λ reply. (state : State) → StandsFor self.old state → Gives (answer_of state line.now) reply out.old.items out.new.items self.new) }
+        ensures true_ledger { IfOk result (λ reply. (state : State) → StandsFor self.old state → (verdict_of : Verdicts) → AreRight verdict_of → IsTrueText verdict_of (answer_of state line.now).text) }
         ensures spent { OnErr result (IsSpent self.new) }
         ensures stays_spent { IsSpent self.old → IsErr result }
     {
         if self.spent {
             return Err(NoMemory);
         }
+        let _drawn = self.sketch.elements();
         self.count = self.count.saturating_add(1);
         let answered = self.answer(alloc, line, out);
         if answered.is_err() {
@@ -83,7 +90,22 @@ impl Session {
                 Ok(()) => Ok(Reply::Accepted),
                 Err(_) => Err(NoMemory),
             },
+            Command::Ledger => self.ledger(alloc, out),
             _ => self.refuse(alloc, Refusal::Command, out),
+        }
+    }
+
+    /// Writes the ledger of the sketch.
+    fn ledger(&mut self, alloc: Global, out: &mut Vec<u8>) -> Result<Reply, NoMemory>
+        requires { self.old.spent ≡ false }
+        ensures gives { IfOk result (λ reply. (state : State) → StandsFor self.old state → Gives (written state (Text.LedgerOf (drawing_of state))) reply out.old.items out.new.items self.new) }
+    {
+        match write_ledger(alloc, &self.sketch, &mut self.ledger, out) {
+            Ok(()) => Ok(Reply::Accepted),
+            Err(_) => {
+                self.spent = true;
+                Err(NoMemory)
+            }
         }
     }
 

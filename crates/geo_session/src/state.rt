@@ -4,6 +4,7 @@ ghost use Rattle.std.specs.Prelude.{◌≡◌, false};
 ghost use Rattle.geo_session.specs.Together.{IsTogether};
 
 use geo_eval::Scene;
+use geo_ledger::Ledger;
 use geo_sketch::{Refusal, Sketch};
 use geo_undo::History;
 
@@ -24,10 +25,11 @@ pub struct Session {
     pub(crate) sketch: Sketch,
     pub(crate) history: History,
     pub(crate) scene: Scene,
+    pub(crate) ledger: Ledger,
     /// How many lines were read; it stays at its last value.
     pub(crate) count: u64,
     /// Memory was wanting.
     pub(crate) spent: bool,
-    // Until then sketch, history and scene fit.
-    ghost together: { spent ≡ false → IsTogether sketch history.done scene },
+    // Until then sketch, history, scene and kept verdicts fit.
+    ghost together: { spent ≡ false → IsTogether sketch history.done scene ledger },
 }

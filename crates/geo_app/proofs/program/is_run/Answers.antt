@@ -1,4 +1,4 @@
-use Rattle.std.proofs.Common.{rules, ◌≡◌, ◌∙◌, ap, length, codes, arith}
+use Rattle.std.proofs.Common.{◌≡◌, ◌∙◌, ap, length, codes, arith}
 use Rattle.std.specs.Str.{bytes_eq}
 use Rattle.std.specs.String.{string_bytes}
 use Rattle.geo_app.proofs.Taken.{is_form}

@@ -1,4 +1,4 @@
-use Rattle.std.proofs.Common.{ℕ, ◌≤◌, length}
+use Rattle.std.proofs.Common.{◌≤◌, length}
 use Rattle.geo_app.proofs.Progress.{Progress}
 use Rattle.geo_app.proofs.script.run_script.Given as goal
 

@@ -1,4 +1,4 @@
 use Rattle.geo_session.proofs.edits.follow.Given as goal
 
-abbrev pub ghosts-follow_counted : goal.ghosts-follow_counted
-ghosts-follow_counted a = record { name = a.blank.name; parts = a.blank.parts }
+abbrev pub ghosts-show : goal.ghosts-show
+ghosts-show a = record { name = a.blank.name; parts = a.blank.parts }

@@ -1,4 +1,4 @@
-use Rattle.std.proofs.Common.{rules, ◌≡◌, ◌∙◌, sym, ◌<◌, length, get_or}
+use Rattle.std.proofs.Common.{rules, ◌≡◌, ◌∙◌, ◌<◌, length, get_or}
 use Rattle.geo_session.proofs.TogetherLaws.{is_shown}
 use Rattle.geo_session.proofs.texts.write_screen.Goals as goal
 

@@ -1,12 +1,15 @@
-use Rattle.std.proofs.Common.{rules, ◌≡◌, ◌∙◌, ap, refl}
+use Rattle.std.proofs.Common.{◌∙◌, ap, refl}
 use Rattle.std.specs.Prelude.{Err}
-use Rattle.geo_session.specs.Answers.{State, last_of, taken_back_to, done_again}
-use Rattle.geo_session.proofs.StateLaws.{undo_given, redo_given, undo_refused, redo_refused, refusal_given}
-use Rattle.geo_session.proofs.TogetherLaws.{before_shown}
+use Rattle.geo_session.specs.Answers.{State, done_again}
+use Rattle.geo_session.proofs.StateLaws.{redo_refused, refusal_given}
+use Rattle.geo_session.proofs.TogetherLaws.{before_shown, before_kept}
 use Rattle.geo_session.proofs.state.Session.redo.Goals as goal
 
 pub follow-requires-clause-before : goal.follow-requires-clause-before
 follow-requires-clause-before c = before_shown c.args.self.now.sketch c.redo.new.sketch c.in-Ok.delta c.args.self.now.scene c.in-Ok.ensures.after c.in-Ok.ensures.drawn c.in-Ok.ensures.leads (c.args.self.now.together c.requires).shown
+
+pub follow-requires-clause-kept : goal.follow-requires-clause-kept
+follow-requires-clause-kept c = before_kept c.args.self.now.sketch c.redo.new.sketch c.in-Ok.delta c.args.self.now.ledger c.in-Ok.ensures.after c.in-Ok.ensures.drawn c.in-Ok.ensures.leads (c.args.self.now.together c.requires).right
 
 pub returns-in-Err-Refused : goal.returns-in-Err-Refused
 returns-in-Err-Refused c =

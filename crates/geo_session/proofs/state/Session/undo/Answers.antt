@@ -1,8 +1,7 @@
-use Rattle.std.proofs.Common.{rules, ◌≡◌, ◌∙◌, ap, refl}
+use Rattle.std.proofs.Common.{◌∙◌, ap, refl}
 use Rattle.std.specs.Prelude.{Err}
-use Rattle.geo_session.specs.Answers.{State, last_of, taken_back_to, done_again}
-use Rattle.geo_session.proofs.StateLaws.{undo_given, redo_given, undo_refused, redo_refused, refusal_given}
-use Rattle.geo_session.proofs.TogetherLaws.{before_shown}
+use Rattle.geo_session.specs.Answers.{State, last_of, taken_back_to}
+use Rattle.geo_session.proofs.StateLaws.{undo_given, undo_refused, refusal_given}
 use Rattle.geo_session.proofs.state.Session.undo.Goals as goal
 
 pub returns-in-Ok-follow : goal.returns-in-Ok-follow

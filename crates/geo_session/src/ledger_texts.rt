@@ -1,0 +1,258 @@
+//! The text of a ledger, appended to the output.
+
+ghost use Rattle.std.specs.Prelude.{◌≡◌, ◌++◌, ◌/◌, ◌%◌, OnOk, codes, flat_map};
+ghost use Rattle.geo_ledger.specs.Ledgers.{IsLedger};
+ghost use Rattle.geo_sketch.specs.Sketches.{kind_at, numbered};
+ghost use Rattle.geo_session.specs.LedgerTexts.{first_letter, ledger_line, name_at, parameter_text, second_letter, statement_text, two_names, value_text, values_text, verdict_word, word_for};
+ghost use Rattle.geo_session.specs.Kept.{AreRightlyKept};
+ghost use Rattle.geo_session.specs.Standing.{IsAppended};
+ghost use Rattle.geo_session.specs.Answers.{Text};
+
+use geo_degree::one_verdict;
+use geo_ledger::{Entry, Ledger};
+use geo_settle::right_verdicts;
+use geo_sketch::{
+    Def, Element, Kind, NoMemory, Past, Sketch, Statement, Values, Verdict, find_by_number,
+};
+use std::alloc::{AllocError, Global};
+
+/// By how many workers a statement is settled.
+const WORKERS: u64 = 1;
+
+/// Appends the ledger of the sketch. Verdicts that are kept are not found again, and those
+/// that are found are kept.
+pub(crate) fn write_ledger(
+    alloc: Global,
+    sketch: &Sketch,
+    ledger: &mut Ledger,
+    out: &mut Vec<u8>,
+) -> Result<(), NoMemory>
+    requires { AreRightlyKept sketch.now ledger.old }
+    ensures written { OnOk result (IsAppended (Text.LedgerOf sketch.now) out.old.items out.new.items) }
+    ensures right { OnOk result (AreRightlyKept sketch.now ledger.new) }
+{
+    right_verdicts();
+    one_verdict();
+    let _drawn = sketch.elements();
+    let entries = ledger.entries(alloc, sketch, WORKERS)?;
+    write_entries(alloc, sketch, entries, out)
+}
+
+/// Appends a line for each entry, where the entries are the ledger of the sketch.
+fn write_entries(
+    alloc: Global,
+    sketch: &Sketch,
+    entries: &[Entry],
+    out: &mut Vec<u8>,
+) -> Result<(), NoMemory>
+    requires { IsLedger sketch.now entries.now }
+    ensures { OnOk result (IsAppended (Text.LedgerOf sketch.now) out.old.items out.new.items) }
+{
+    one_verdict();
+    let elements = sketch.elements();
+    for entry in entries {
+        if write_line(alloc, elements, &entry.statement, &entry.verdict, out).is_err() {
+            return Err(NoMemory);
+        }
+    }
+    Ok(())
+}
+
+fn write_line(
+    alloc: Global,
+    elements: &[Element],
+    statement: &Statement,
+    verdict: &Verdict,
+    out: &mut Vec<u8>,
+) -> Result<(), AllocError>
+    ensures { OnOk result (out.new.items ≡ out.old.items ++ ledger_line elements.now statement.now verdict.now) }
+{
+    out.extend_from_slice(word_of_verdict(verdict))?;
+    write_statement(elements, statement, out)?;
+    if let Verdict::False(values) = verdict {
+        write_values(alloc, elements, values, out)?;
+    }
+    out.extend_from_slice(b"\n")
+}
+
+fn word_of_verdict(verdict: &Verdict) -> &'static [u8]
+    ensures { result.now ≡ verdict_word verdict.now }
+{
+    match verdict {
+        Verdict::Proved => b"proved ",
+        Verdict::False(_) => b"false ",
+        Verdict::Unsettled(Past::Size) => b"unsettled grid ",
+        Verdict::Unsettled(Past::Height) => b"unsettled height ",
+    }
+}
+
+/// A statement by the names of its elements, which stand by rising number, but the point
+/// before its line.
+fn write_statement(
+    elements: &[Element],
+    statement: &Statement,
+    out: &mut Vec<u8>,
+) -> Result<(), AllocError>
+    ensures { OnOk result (out.new.items ≡ out.old.items ++ statement_text elements.now statement.now) }
+{
+    match statement {
+        Statement::Null(n) => {
+            out.extend_from_slice(b"null ")?;
+            write_name(elements, *n, out)
+        }
+        Statement::Same(n, m) => {
+            out.extend_from_slice(b"same ")?;
+            write_two_names(elements, *n, *m, out)
+        }
+        Statement::On(n, m) => {
+            out.extend_from_slice(b"on ")?;
+            write_point_first(elements, *n, *m, out)
+        }
+        Statement::Triple(n, m, k) => {
+            out.extend_from_slice(word_of_triple(find_kind(elements, *n)))?;
+            write_name(elements, *n, out)?;
+            out.extend_from_slice(b" ")?;
+            write_two_names(elements, *m, *k, out)
+        }
+    }
+}
+
+fn word_of_triple(kind: Option<Kind>) -> &'static [u8]
+    ensures { result.now ≡ word_for kind (codes "collinear ") (codes "concurrent ") }
+{
+    match kind {
+        Some(Kind::Point) => b"collinear ",
+        Some(Kind::Line) => b"concurrent ",
+        None => b"",
+    }
+}
+
+fn write_point_first(
+    elements: &[Element],
+    n: u32,
+    m: u32,
+    out: &mut Vec<u8>,
+) -> Result<(), AllocError>
+    ensures { OnOk result (out.new.items ≡ out.old.items ++ word_for (kind_at elements.now n) (two_names (name_at elements.now n) (name_at elements.now m)) (two_names (name_at elements.now m) (name_at elements.now n))) }
+{
+    match find_kind(elements, n) {
+        Some(Kind::Point) => write_two_names(elements, n, m, out),
+        Some(Kind::Line) => write_two_names(elements, m, n, out),
+        None => Ok(()),
+    }
+}
+
+fn write_two_names(
+    elements: &[Element],
+    first: u32,
+    second: u32,
+    out: &mut Vec<u8>,
+) -> Result<(), AllocError>
+    ensures { OnOk result (out.new.items ≡ out.old.items ++ two_names (name_at elements.now first) (name_at elements.now second)) }
+{
+    write_name(elements, first, out)?;
+    out.extend_from_slice(b" ")?;
+    write_name(elements, second, out)
+}
+
+fn write_name(elements: &[Element], number: u32, out: &mut Vec<u8>) -> Result<(), AllocError>
+    ensures { OnOk result (out.new.items ≡ out.old.items ++ name_at elements.now number) }
+{
+    match find_by_number(elements, number) {
+        Some(element) => out.extend_from_slice(element.name.bytes()),
+        None => Ok(()),
+    }
+}
+
+fn find_kind(elements: &[Element], number: u32) -> Option<Kind>
+    ensures { result ≡ kind_at elements.now number }
+{
+    find_by_number(elements, number).map(|element| element.kind)
+}
+
+/// The values at which a statement fails; nothing where it has no axes.
+fn write_values(
+    alloc: Global,
+    elements: &[Element],
+    values: &Values,
+    out: &mut Vec<u8>,
+) -> Result<(), AllocError>
+    ensures { OnOk result (out.new.items ≡ out.old.items ++ values_text elements.now values.now) }
+{
+    if values.len() == 0 {
+        return Ok(());
+    }
+    out.extend_from_slice(b" at")?;
+    write_all_values(alloc, elements, values, out)
+}
+
+fn write_all_values(
+    alloc: Global,
+    elements: &[Element],
+    values: &Values,
+    out: &mut Vec<u8>,
+) -> Result<(), AllocError>
+    ensures { OnOk result (out.new.items ≡ out.old.items ++ flat_map (value_text elements.now) values.now) }
+{
+    for k in 0..values.len() {
+        match values.get(k) {
+            Some((parameter, value)) => write_value(alloc, elements, parameter, value, out)?,
+            None => unreachable!(),
+        }
+    }
+    Ok(())
+}
+
+fn write_value(
+    alloc: Global,
+    elements: &[Element],
+    parameter: u32,
+    value: i64,
+    out: &mut Vec<u8>,
+) -> Result<(), AllocError>
+    ensures { OnOk result (out.new.items ≡ out.old.items ++ value_text elements.now (parameter, value)) }
+{
+    let digits = format!(in alloc; "{value}")?;
+    out.extend_from_slice(b" ")?;
+    write_parameter(elements, parameter, out)?;
+    out.extend_from_slice(digits.as_bytes())
+}
+
+fn write_parameter(
+    elements: &[Element],
+    parameter: u32,
+    out: &mut Vec<u8>,
+) -> Result<(), AllocError>
+    ensures { OnOk result (out.new.items ≡ out.old.items ++ parameter_text (numbered elements.now (parameter / 2)) (parameter % 2)) }
+{
+    match find_by_number(elements, parameter / 2) {
+        Some(element) => {
+            out.extend_from_slice(element.name.bytes())?;
+            out.extend_from_slice(if parameter % 2 == 0 {
+                word_of_first(&element.def, element.kind)
+            } else {
+                word_of_second(element.kind)
+            })
+        }
+        None => Ok(()),
+    }
+}
+
+fn word_of_first(def: &Def, kind: Kind) -> &'static [u8]
+    ensures { result.now ≡ first_letter def.now kind }
+{
+    match (def, kind) {
+        (Def::Free, Kind::Point) => b".x=",
+        (Def::Free, Kind::Line) => b".u=",
+        _ => b".t=",
+    }
+}
+
+fn word_of_second(kind: Kind) -> &'static [u8]
+    ensures { result.now ≡ second_letter kind }
+{
+    match kind {
+        Kind::Point => b".y=",
+        Kind::Line => b".v=",
+    }
+}
