@@ -1,7 +1,7 @@
 //! Ways over many points, each of which counts those at which a part of a form is not 0.
 
 ghost use Rattle.std.specs.Prelude.{◌≡◌, ◌<◌, ◌≤◌, All, IfOk, length, unsigned_abs};
-ghost use Rattle.geo_degree.specs.Questions.{IsWithinLimits, blocks};
+ghost use Rattle.geo_degree.specs.Questions.{IsWithinLimits};
 ghost use Rattle.geo_grid.specs.Values.{AgreeBefore};
 
 use geo_grid::{Axis, Cursor, Form, Grid, Scratch};
@@ -19,7 +19,7 @@ pub(crate) fn over_grid<F: Form, L: Ledger>(
     points: u64,
     blank: Blank,
 ) -> Result<u64, NoMemory>
-    requires grid { grid.now ≡ blocks (F.question form.now) }
+    requires grid { grid.now ≡ (F.question form.now).blocks }
     requires within { IsWithinLimits (F.question form.now) }
     requires name { blank.name ≡ L.name }
     requires parts { blank.parts ≡ L.parts }

@@ -1,4 +1,5 @@
 -- Absolute values of sums, differences and products, and bounds of them.
+-- lemmas for other crates
 use Rattle.std.proofs.Common.{◌≡◌, ℕ, ◌+◌, ◌*◌, ◌≤◌, ◌<◌, ◌^◌, ℤ, ◌+ℤ◌, ◌-ℤ◌, ◌*ℤ◌, neg_ℤ, unsigned_abs, arith, mul-le-mul, FitsSigned}
 use Rattle.std.proofs.lemmas.Int.{ints, unsigned_abs-mul, fits_signed_from_abs}
 use mir.Syntax.{w128}
@@ -19,18 +20,6 @@ pub abs-minor : (a b c d : ℤ) → unsigned_abs (a *ℤ b -ℤ c *ℤ d) ≤ un
 abs-minor a b c d = omega (arith, ints, unsigned_abs-mul a b, unsigned_abs-mul c d)
 
 -- ---- where bounds of the absolute values are known
-pub product_bound : (x y m n : ℕ) → x ≤ m → y ≤ n → x * y ≤ m * n
-product_bound x y m n p q = mul-le-mul p q
-
-pub abs-add_bound : (a b : ℤ) (m n : ℕ) → unsigned_abs a ≤ m → unsigned_abs b ≤ n → unsigned_abs (a +ℤ b) ≤ m + n
-abs-add_bound a b m n p q = omega (arith, abs-add a b)
-
-pub abs-sub_bound : (a b : ℤ) (m n : ℕ) → unsigned_abs a ≤ m → unsigned_abs b ≤ n → unsigned_abs (a -ℤ b) ≤ m + n
-abs-sub_bound a b m n p q = omega (arith, abs-sub a b)
-
-pub abs-mul_bound : (a b : ℤ) (m n : ℕ) → unsigned_abs a ≤ m → unsigned_abs b ≤ n → unsigned_abs (a *ℤ b) ≤ m * n
-abs-mul_bound a b m n p q = omega (arith, unsigned_abs-mul a b, mul-le-mul p q)
-
 pub abs-minor_bound : (a b c d : ℤ) (k l m n : ℕ) → unsigned_abs a ≤ k → unsigned_abs b ≤ l → unsigned_abs c ≤ m → unsigned_abs d ≤ n → unsigned_abs (a *ℤ b -ℤ c *ℤ d) ≤ k * l + m * n
 abs-minor_bound a b c d k l m n p q r s = omega (arith, abs-minor a b c d, mul-le-mul p q, mul-le-mul r s)
 

@@ -1,4 +1,5 @@
 -- The laws of the whole numbers that the library lacks. `omega (arith, ints)` proves what is linear, a product of two variables being one unknown.
+-- lemmas for other crates
 use Rattle.std.proofs.Common.{◌≡◌, ◌≢◌, ℤ, pos, negsuc, ◌+ℤ◌, ◌*ℤ◌, ◌⊎◌, inl, inr, ⊎_elim, ◌*◌, suc, zero, refl, ap, arith, unsigned_abs}
 use Rattle.std.proofs.lemmas.Int.{ints, unsigned_abs-mul}
 use borrow.Author.Differences.{up, down, sum_is_lem, product_is}
@@ -26,12 +27,6 @@ mul_ℤ_assoc a b c =
       ap (λ n. down a * n) (product_is b c).0,
       ap (λ n. down a * n) (product_is b c).1,
     )
-
-pub one-mul_ℤ : (a : ℤ) → pos 1 *ℤ a ≡ a
-one-mul_ℤ a = omega (arith, ints)
-
-pub zero-mul_ℤ : (a : ℤ) → pos 0 *ℤ a ≡ pos 0
-zero-mul_ℤ a = omega (arith, ints)
 
 -- ---- no divisors of zero
 pub zero_product : (a b : ℤ) → a *ℤ b ≡ pos 0 → (a ≡ pos 0) ⊎ (b ≡ pos 0)

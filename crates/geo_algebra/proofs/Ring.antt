@@ -1,5 +1,6 @@
 -- Identities of whole numbers. `ring (a ∷ b ∷ []) (search reads depth 40 fits 5000) tt` proves an equation whose two sides are one
 -- polynomial of a, b: `search` reads the sides, and `tt` says that their difference computes to nothing.
+-- lemmas for other crates
 use Rattle.std.proofs.Common.{◌≡◌, ℕ, suc, List, [], ◌∷◌, get_or, ℤ, pos, negsuc, ◌+ℤ◌, ◌-ℤ◌, ◌*ℤ◌, neg_ℤ, Bool, true, false, cond, ◌&&◌, T, eqb, leb, eqb→eq, refl, sym, ap, ap₂, ◌∙◌, arith, subst}
 use Rattle.std.proofs.lemmas.Int.{ints}
 use Rattle.geo_algebra.proofs.Integers.{mul_ℤ-add, add-mul_ℤ, mul_ℤ_assoc, mul_ℤ_comm}

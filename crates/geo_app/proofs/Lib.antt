@@ -1,2 +1,1 @@
 mod Progress
-mod Taken

@@ -1,3 +1,4 @@
+pub mod Tasks
 pub mod Output
 pub mod Outcomes
 pub mod Steps

@@ -1,17 +1,20 @@
--- What the program writes for the bytes of a script.
+-- What the program prints, and whether it refuses something, by its task and the bytes that
+-- it reads.
 use Rattle.std.specs.Prelude.{◌≡◌, ℕ, true, List}
 use Rattle.geo_io.specs.Lines.{lines_of}
-use Rattle.geo_degree.specs.Verdicts.{Verdicts}
-use Rattle.geo_session.specs.Answers.{Text, start, script_reply, has_refusal, texts_of}
+use Rattle.geo_session.specs.Answers.{start, has_refusal, printed_from}
+use Rattle.geo_session.specs.Printed.{Piece, text_of}
+use Rattle.geo_app.specs.declared.task.Task.{Task}
+use Rattle.geo_app.specs.declared.task.Task.TheVariants.{Run}
 
--- the texts that its lines ask for, one after the other
-abbrev pub output_texts : List ℕ → List Text
-output_texts bytes = texts_of start (lines_of bytes)
+-- what is printed, piece by piece
+abbrev pub printed : Task → List ℕ → List Piece
+printed Run bytes = printed_from start (lines_of bytes)
 
--- their bytes, by the verdict of each statement
-abbrev pub output_of : Verdicts → List ℕ → List ℕ
-output_of verdict_of bytes = script_reply verdict_of start (lines_of bytes)
+-- its bytes
+abbrev pub output_of : Task → List ℕ → List ℕ
+output_of task bytes = text_of (printed task bytes)
 
 -- a line is refused
-abbrev pub HasRefusal : List ℕ → Type 0
-HasRefusal bytes = has_refusal start (lines_of bytes) ≡ true
+abbrev pub HasRefusal : Task → List ℕ → Type 0
+HasRefusal Run bytes = has_refusal start (lines_of bytes) ≡ true

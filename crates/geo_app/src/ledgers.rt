@@ -5,7 +5,7 @@ use geo_io::{SureSink, SureSource};
 use std::alloc::{AllocError, Global};
 
 /// What it is, the script, and the reply, which an evaluator of its own gave.
-const LEDGERS: [(&str, &[u8], &[u8]); 12] = [
+const LEDGERS: [(&str, &[u8], &[u8]); 13] = [
     (
         "three free points",
         b"point A 0 0\npoint B 1 0\npoint C 0 1\nclaim collinear A B C\nledger\nclaim collinear C B A\n",
@@ -19,12 +19,17 @@ const LEDGERS: [(&str, &[u8], &[u8]); 12] = [
     (
         "Pappus' figure with four free points",
         b"point A 0 1\npoint B 2 1\nalong C A B 1\npoint D 0 -1\npoint E 3 -2\nalong F D E 2\njoin ae A E\njoin bd B D\nmeet X ae bd\njoin af A F\njoin cd C D\nmeet Y af cd\njoin bf B F\njoin ce C E\nmeet Z bf ce\nclaim collinear X Y Z\nledger\n",
-        b"ok\nok\nok\nok\nok\nok\nok\nok\nok\nok\nok\nok\nok\nok\nok\nok\nunsettled grid collinear X Y Z\n",
+        b"ok\nok\nok\nok\nok\nok\nok\nok\nok\nok\nok\nok\nok\nok\nok\nok\nproved collinear X Y Z\n",
     ),
     (
         "Pappus' figure with two fixed points",
         b"fixpoint A 0 1 1\nfixpoint B 2 1 1\nalong C A B 1\npoint D 0 -1\npoint E 3 -2\nalong F D E 2\njoin ae A E\njoin bd B D\nmeet X ae bd\njoin af A F\njoin cd C D\nmeet Y af cd\njoin bf B F\njoin ce C E\nmeet Z bf ce\nclaim collinear X Y Z\nledger\n",
         b"ok\nok\nok\nok\nok\nok\nok\nok\nok\nok\nok\nok\nok\nok\nok\nok\nproved collinear X Y Z\n",
+    ),
+    (
+        "Desargues' figure with a free centre",
+        b"point O 0 0\npoint A 1 0\npoint B 0 1\npoint C -1 -1\nalong D O A 1\nalong E O B 2\nalong F O C 3\njoin ab A B\njoin de D E\nmeet X ab de\njoin bc B C\njoin ef E F\nmeet Y bc ef\njoin ca C A\njoin fd F D\nmeet Z ca fd\nclaim collinear X Y Z\nledger\n",
+        b"ok\nok\nok\nok\nok\nok\nok\nok\nok\nok\nok\nok\nok\nok\nok\nok\nok\nunsettled grid collinear X Y Z\n",
     ),
     (
         "a small grid with large numbers",
@@ -37,9 +42,9 @@ const LEDGERS: [(&str, &[u8], &[u8]); 12] = [
         b"ok\nok\nok\nok\nok\nok\nok\nok\nok\nok\nok\nok\nok\nok\nok\nok\nok\nok\nproved collinear X Y Z\nfalse collinear A X Y at A.x=0 A.y=1 B.x=1 B.y=0 C.x=0 C.y=-1 D.t=0 E.t=1 F.t=1\n",
     ),
     (
-        "a false claim whose grid is too large",
+        "a false claim on twelve points",
         b"point A 0 0\npoint B 0 0\npoint C 0 0\npoint D 0 0\npoint E 0 0\npoint F 0 0\npoint G 0 0\npoint H 0 0\npoint I 0 0\npoint J 0 0\npoint K 0 0\npoint L 0 0\njoin ab A B\njoin cd C D\nmeet X ab cd\njoin ef E F\njoin gh G H\nmeet Y ef gh\njoin ij I J\njoin kl K L\nmeet Z ij kl\nclaim collinear X Y Z\nledger\n",
-        b"ok\nok\nok\nok\nok\nok\nok\nok\nok\nok\nok\nok\nok\nok\nok\nok\nok\nok\nok\nok\nok\nok\nfalse collinear X Y Z at A.x=2 A.y=-1 B.x=-2 B.y=-1 C.x=2 C.y=-3 D.x=-3 D.y=-1 E.x=0 E.y=-1 F.x=0 F.y=0 G.x=-2 G.y=-2 H.x=-3 H.y=1 I.x=-3 I.y=-2 J.x=-2 J.y=3 K.x=0 K.y=2 L.x=3 L.y=-1\n",
+        b"ok\nok\nok\nok\nok\nok\nok\nok\nok\nok\nok\nok\nok\nok\nok\nok\nok\nok\nok\nok\nok\nok\nfalse collinear X Y Z at A.x=0 A.y=0 B.x=0 B.y=1 C.x=0 C.y=0 D.x=1 D.y=0 E.x=0 E.y=0 F.x=0 F.y=1 G.x=0 G.y=1 H.x=1 H.y=0 I.x=0 I.y=0 J.x=1 J.y=0 K.x=0 K.y=1 L.x=1 L.y=0\n",
     ),
     (
         "a false claim without axes",

@@ -8,6 +8,7 @@ mod program;
 #[cfg(test)]
 mod rows;
 mod script;
+mod task;
 
 use geo_io::{ReadSource, WriteSink};
 use program::{Outcome, run_program};

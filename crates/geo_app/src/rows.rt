@@ -16,7 +16,7 @@ fn words(alloc: Global, word: &str) -> Result<Vec<String>, AllocError> {
     Ok(words)
 }
 
-const SCRIPTS: [(&[u8], Outcome, &[u8]); 16] = [
+const SCRIPTS: [(&[u8], Outcome, &[u8]); 17] = [
     (b"", Outcome::Done, b""),
     (
         b"fixpoint A 0 0 1\nfixpoint B 4 2 1\njoin l A B\nscreen\n",
@@ -85,9 +85,14 @@ const SCRIPTS: [(&[u8], Outcome, &[u8]); 16] = [
         b"ok\nok\nok\nok\nok\nA point 0 0 1\nB point 4 2 1\nl line -1 2 0\nP point 6 3 2\nok\nok\nrefused 9 repeat\nA point 0 0 1\nB point 4 2 1\nl line -1 2 0\nP point 2 1 1\n",
     ),
     (
-        b"fixpoint O 0 0 1\npoint A 1 0\npoint B 0 1\npoint C -1 -1\nalong D O A 1\nalong E O B 2\nalong F O C 3\njoin ab A B\njoin de D E\nmeet X ab de\njoin bc B C\njoin ef E F\nmeet Y bc ef\njoin ca C A\njoin fd F D\nmeet Z ca fd\nclaim collinear X Y Z\ndrag A 1000 1000\ndrag B 1000 -1000\nscreen\n",
+        b"fixpoint O 0 0 1\npoint A 1 0\npoint B 0 1\npoint C -1 -1\nalong D O A 1\nalong E O B 2\nalong F O C 3\njoin ab A B\njoin de D E\nmeet X ab de\njoin bc B C\njoin ef E F\nmeet Y bc ef\njoin ca C A\njoin fd F D\nmeet Z ca fd\nclaim collinear X Y Z\nledger\ndrag A 1000 1000\ndrag B 1000 -1000\nscreen\nledger\n",
         Outcome::Done,
-        b"ok\nok\nok\nok\nok\nok\nok\nok\nok\nok\nok\nok\nok\nok\nok\nok\nok\nok\nok\nO point 0 0 1\nA point 1000 1000 1\nB point 1000 -1000 1\nC point -1 -1 1\nD point 500 500 1\nE point 2000 -2000 3\nF point -3 -3 4\nab line -1 0 1000\nde line -7 -1 4000\nX point far\nbc line 999 1001 2000\nef line 7991 8009 12000\nY point -2003 1997 1\nca line -1 1 0\nfd line -1 1 0\nZ point null\n",
+        b"ok\nok\nok\nok\nok\nok\nok\nok\nok\nok\nok\nok\nok\nok\nok\nok\nok\nproved collinear X Y Z\nok\nok\nO point 0 0 1\nA point 1000 1000 1\nB point 1000 -1000 1\nC point -1 -1 1\nD point 500 500 1\nE point 2000 -2000 3\nF point -3 -3 4\nab line -1 0 1000\nde line -7 -1 4000\nX point 1000 -3000 1\nbc line 999 1001 2000\nef line 7991 8009 12000\nY point -2003 1997 1\nca line -1 1 0\nfd line -1 1 0\nZ point null\nproved collinear X Y Z\n",
+    ),
+    (
+        b"point A 1000 1000\npoint B 1000 -1000\npoint C -1000 1000\npoint D 999 1000\njoin l A B\njoin m C D\nmeet X l m\njoin n X C\nscreen\n",
+        Outcome::Done,
+        b"ok\nok\nok\nok\nok\nok\nok\nok\nA point 1000 1000 1\nB point 1000 -1000 1\nC point -1000 1000 1\nD point 999 1000 1\nl line -1 0 1000\nm line 0 -1 1000\nX point 1000 1000 1\nn line far\n",
     ),
 ];
 
@@ -120,7 +125,7 @@ fn full_script(alloc: Global, start: &str, count: usize, end: &str) -> Result<Ve
 
 #[test]
 fn refuses_what_is_full(rt: HostRuntime) -> Result<(), AllocError> {
-    for (start, end, room) in [("fixpoint F", " 1 0 1", 40), ("point P", " 0 0", 12)] {
+    for (start, end, room) in [("fixpoint F", " 1 0 1", 64), ("point P", " 0 0", 12)] {
         let script = full_script(rt.alloc(), start, room + 1, end)?;
         let mut want = Vec::new(rt.alloc());
         for _ in 0..room {
@@ -139,6 +144,30 @@ fn refuses_what_is_full(rt: HostRuntime) -> Result<(), AllocError> {
         assert_eq!(rt; sink.held(), want.as_slice());
         assert_eq!(rt; ended, Outcome::SomeRefused);
     }
+    Ok(())
+}
+
+/// Numbers are not given again, so that the last element has the number 110.
+#[test]
+fn shows_an_element_with_a_large_number(rt: HostRuntime) -> Result<(), AllocError> {
+    let mut script = Vec::new(rt.alloc());
+    let mut want = Vec::new(rt.alloc());
+    for _ in 0..110 {
+        script.extend_from_slice(b"point A 0 0\ndrop A\n")?;
+        want.extend_from_slice(b"ok\nok\n")?;
+    }
+    script.extend_from_slice(b"point B 1 2\nscreen\n")?;
+    want.extend_from_slice(b"ok\nB point 1 2 1\n")?;
+    let mut source = SureSource::new(script);
+    let mut sink = SureSink::new(rt.alloc());
+    let ended = run_in_memory(
+        rt.alloc(),
+        &words(rt.alloc(), "run")?,
+        &mut source,
+        &mut sink,
+    );
+    assert_eq!(rt; sink.held(), want.as_slice());
+    assert_eq!(rt; ended, Outcome::Done);
     Ok(())
 }
 

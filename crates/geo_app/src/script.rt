@@ -5,10 +5,9 @@ ghost use Rattle.std.specs.Io.KnownBytes.{Appends};
 ghost use Rattle.geo_io.specs.Faults.{Rose};
 ghost use Rattle.geo_io.specs.Pieces.{AppendsFront};
 ghost use Rattle.geo_io.specs.Lines.{lines_of};
-ghost use Rattle.geo_degree.specs.Verdicts.{AreRight, Verdicts};
-ghost use Rattle.geo_session.specs.Answers.{State, start, answer_of, bytes_of, is_refused, script_reply, has_refusal};
+ghost use Rattle.geo_session.specs.Answers.{State, start, answer_of, is_refused, printed_from, has_refusal};
+ghost use Rattle.geo_session.specs.Printed.{text_of};
 ghost use Rattle.geo_session.specs.Standing.{StandsFor};
-ghost use Rattle.geo_app.specs.Output.{output_of};
 ghost use Rattle.geo_app.specs.Steps.{IsTaken};
 
 use geo_io::{Sink, SinkEnd, split_line, write_all};
@@ -22,8 +21,8 @@ pub(crate) fn run_script<K: Sink>(
     sink: &mut K,
 ) -> Result<bool, SinkEnd>
     ensures refused { IfOk result (λ refused. refused ≡ has_refusal start (lines_of bytes.now)) }
-    ensures all { OnOk result ((verdict_of : Verdicts) → AreRight verdict_of → Appends (K.held sink.old) (K.held sink.new) (output_of verdict_of bytes.now)) }
-    ensures front { OnErr result ((verdict_of : Verdicts) → AreRight verdict_of → AppendsFront (K.held sink.old) (K.held sink.new) (output_of verdict_of bytes.now)) }
+    ensures all { OnOk result (Appends (K.held sink.old) (K.held sink.new) (text_of (printed_from start (lines_of bytes.now)))) }
+    ensures front { OnErr result (AppendsFront (K.held sink.old) (K.held sink.new) (text_of (printed_from start (lines_of bytes.now)))) }
     ensures counts { K.fault_count sink.old ≤ K.fault_count sink.new }
     ensures failed { IsErrOf result SinkEnd.Failed → Rose (K.fault_count sink.old) (K.fault_count sink.new) }
 {
@@ -54,7 +53,7 @@ fn take_line<K: Sink>(
     sink: &mut K,
 ) -> Result<Reply, SinkEnd>
     ensures taken { IfOk result (λ reply. (state : State) → StandsFor session.old state → IsTaken state line.now reply (K.held sink.old) (K.held sink.new) session.new) }
-    ensures front { OnErr result ((state : State) → StandsFor session.old state → (verdict_of : Verdicts) → AreRight verdict_of → AppendsFront (K.held sink.old) (K.held sink.new) (bytes_of verdict_of (answer_of state line.now).text)) }
+    ensures front { OnErr result ((state : State) → StandsFor session.old state → AppendsFront (K.held sink.old) (K.held sink.new) (text_of (answer_of state line.now).printed)) }
     ensures counts { K.fault_count sink.old ≤ K.fault_count sink.new }
     ensures failed { IsErrOf result SinkEnd.Failed → Rose (K.fault_count sink.old) (K.fault_count sink.new) }
 {

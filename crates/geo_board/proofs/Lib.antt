@@ -5,5 +5,4 @@ pub mod Seats
 pub mod Closing
 pub mod Schedule
 pub mod Truths
-pub mod Replays
 pub mod Examples

@@ -8,9 +8,7 @@ use mathlib.Core.Option.{some}
 use lib.ListN.{get_elem?}
 use Rattle.geo_board.specs.declared.seat.Entry.{Entry}
 use Rattle.geo_board.specs.declared.seat.SeatView.{SeatView}
-use Rattle.geo_board.specs.declared.event.BoardEvent.{BoardEvent}
-use Rattle.geo_board.specs.declared.event.BoardEvent.TheVariants.{Claim, Look, Finish}
-use Rattle.geo_board.specs.Machine.{no_find, WorkerState, BoardState, initial_worker, initial_state, worker_after_claim, worker_after_look, worker_after_finish, worker_at, IsAllowed, state_after, AreAllowed, state_after_all, IsWholeSchedule, final_state, final_entries, all_entries, times, least_found}
+use Rattle.geo_board.specs.Machine.{BoardEvent, Claim, Look, Finish, no_find, WorkerState, BoardState, initial_worker, initial_state, worker_after_claim, worker_after_look, worker_after_finish, worker_at, IsAllowed, state_after, AreAllowed, state_after_all, IsWholeSchedule, final_state, final_entries, all_entries, times, least_found}
 use Rattle.geo_board.specs.Rule.{view, holds_now, holdings, once_below, least_of_views, SeatFits, BoardFits, view_after_claim, view_after_look, view_after_finish}
 use Rattle.geo_board.proofs.Views.{least_found-append}
 use Rattle.geo_board.proofs.Steps.{claim_fits, look_fits, finish_fits}
@@ -27,12 +25,12 @@ abbrev Keeps : ℕ → BoardState → Type 0
 Keeps workers m = BoardFits m.total workers m.next m.least (seats m)
 
 -- a place of a mapped list
-pub place : {A B : Type 0} (f : A → B) (xs : List A) (k : ℕ) (d : A) → k < length xs → get_elem? (map f xs) k ≡ some (f (get_or xs k d))
+place : {A B : Type 0} (f : A → B) (xs : List A) (k : ℕ) (d : A) → k < length xs → get_elem? (map f xs) k ≡ some (f (get_or xs k d))
 place f [] k d below = absurd (omega arith)
 place f (x ∷ xs) zero d below = refl
 place f (x ∷ xs) (suc k) d below = place f xs k d (omega arith)
 
-pub map_set : {A B : Type 0} (f : A → B) (xs : List A) (k : ℕ) (y : A) → map f (set xs k y) ≡ set (map f xs) k (f y)
+map_set : {A B : Type 0} (f : A → B) (xs : List A) (k : ℕ) (y : A) → map f (set xs k y) ≡ set (map f xs) k (f y)
 map_set f [] k y = refl
 map_set f (x ∷ xs) zero y = refl
 map_set f (x ∷ xs) (suc k) y = ap (λ (l : List _). f x ∷ l) (map_set f xs k y)
@@ -80,7 +78,7 @@ initial_least : (n total : ℕ) → least_of_views (replicate n (view total 1 0 
 initial_least zero total = refl
 initial_least (suc n) total = let r = initial_least n total in omega arith
 
-pub map_replicate : {A B : Type 0} (f : A → B) (n : ℕ) (x : A) → map f (replicate n x) ≡ replicate n (f x)
+map_replicate : {A B : Type 0} (f : A → B) (n : ℕ) (x : A) → map f (replicate n x) ≡ replicate n (f x)
 map_replicate f zero x = refl
 map_replicate f (suc n) x = ap (λ (l : List _). f x ∷ l) (map_replicate f n x)
 

@@ -1,14 +1,22 @@
--- Lists of seats, as they are dealt and gathered.
-use Rattle.std.proofs.Common.{◌≡◌, ℕ, zero, suc, ◌+◌, ◌-◌, None, List, [], ◌∷◌, ◌++◌, map, sym, ap, ◌∙◌, append_assoc, arith}
+-- What a claim gave, and lists of seats, as they are dealt and gathered.
+use Rattle.std.proofs.Common.{◌≡◌, ℕ, zero, suc, ◌+◌, ◌-◌, ◌<◌, ◌≤◌, None, List, [], ◌∷◌, ◌++◌, map, sym, ap, ◌∙◌, append_assoc, arith}
 use Rattle.std.specs.List.{range_with_len}
+use Rattle.std.proofs.lemmas.Bool.Decides.{nat_tests}
 use Rattle.std.proofs.lemmas.List.{map-append, flat_map_more}
 use Rattle.atomic_table.specs.Table.{Me}
 use Rattle.geo_board.specs.declared.seat.Entry.{Entry}
 use Rattle.geo_board.specs.declared.seat.BoardSeat.{BoardSeat}
 use Rattle.geo_board.specs.declared.seat.SeatView.{SeatView}
-use Rattle.geo_board.specs.Machine.{no_find}
+use Rattle.geo_board.specs.Machine.{WorkerState, no_find, with_chunk, with_end, worker_after_claim}
 use Rattle.geo_board.specs.Rule.{view, view_less_one}
 use Rattle.geo_board.specs.BoardSeats.{number_of, worker_of, entries_of}
+
+-- the worker after a claim that got a chunk, and after one that got none
+pub after_chunk : (total next chunk : ℕ) (before after : WorkerState) → after ≡ worker_after_claim total next before → chunk ≡ next → chunk < total → after ≡ with_chunk chunk before
+after_chunk total next chunk before after is same below = grind (arith, nat_tests)
+
+pub after_none : (total next : ℕ) (before after : WorkerState) → after ≡ worker_after_claim total next before → total ≤ next → after ≡ with_end before
+after_none total next before after is past = grind (arith, nat_tests)
 
 -- a range that is one longer
 range_push : (a n : ℕ) → range_with_len a (suc n) ≡ range_with_len a n ++ (a + n) ∷ []

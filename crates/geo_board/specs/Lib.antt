@@ -2,4 +2,3 @@ pub mod Machine
 pub mod Truth
 pub mod Rule
 pub mod BoardSeats
-pub mod Replays

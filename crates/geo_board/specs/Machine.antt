@@ -1,8 +1,6 @@
 -- The board as a pure machine: its states, the events that may happen in each, and what an event changes.
 use Rattle.std.specs.Prelude.{◌≡◌, ◌≤◌, ◌<◌, ◌+◌, ◌-◌, ◌^◌, ◌++◌, ◌==◌, ℕ, Bool, true, false, Option, None, Some, IsSome, List, [], ◌∷◌, length, min, nat_lt, if◌then◌else◌, replicate, slice_index_or, slice_set, flat_map, count_by, All}
 use Rattle.geo_board.specs.declared.seat.Entry.{Entry}
-use Rattle.geo_board.specs.declared.event.BoardEvent.{BoardEvent}
-use Rattle.geo_board.specs.declared.event.BoardEvent.TheVariants.{Claim, Look, Finish}
 
 -- stands for no find, and for no limit
 abbrev pub no_find : ℕ
@@ -17,6 +15,13 @@ pub record WorkerState : Type 0 where
   pub look : ℕ
   pub ended : Bool
   pub entries : List Entry
+
+-- what a worker, named by its number, may do at one step; with a finish goes the least failing
+-- index of its chunk, or no_find
+pub data BoardEvent : Type 0 where
+  Claim : ℕ → BoardEvent
+  Look : ℕ → BoardEvent
+  Finish : ℕ → ℕ → BoardEvent
 
 -- the number of chunks, the next chunk to claim, the least index found, and the workers by their numbers
 pub record BoardState : Type 0 where

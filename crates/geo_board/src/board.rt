@@ -1,7 +1,7 @@
 // The calls on a board: each of `claim`, `look` and `finish` is one atomic operation on one word.
 ghost use Rattle.std.specs.Prelude.{◌≡◌, ℕ, ◌+◌, ◌-◌, ◌≤◌, ◌<◌, ◌^◌, [], true, false, None, Some, IsSome, All, length, vec_len, map, IfOk, IfSome, MatchOption};
 ghost use Rattle.std.specs.List.{range_with_len};
-ghost use Rattle.geo_board.specs.Machine.{no_find, with_chunk, with_end, worker_after_look, worker_after_finish, least_found, times};
+ghost use Rattle.geo_board.specs.Machine.{worker_after_claim, worker_after_look, worker_after_finish, least_found, times};
 ghost use Rattle.geo_board.specs.Rule.{initial_view};
 ghost use Rattle.geo_board.specs.BoardSeats.{total_of, workers_of, number_of, worker_of, IsSeatOf, IsInitialSeatOf, HasEnded, entries_of};
 
@@ -67,9 +67,8 @@ impl Board {
         requires of_board { IsSeatOf self.now seat.old }
         requires free { ((worker_of seat.old).chunk ≡ None) × ((worker_of seat.old).ended ≡ false) }
         ensures of_board { IsSeatOf self.now seat.new × (number_of seat.new ≡ number_of seat.old) }
-        ensures claimed { (next : ℕ) × MatchOption result
-            ((total_of self.now ≤ next) × (worker_of seat.new ≡ with_end (worker_of seat.old)))
-            (λ chunk. (chunk ≡ next) × (chunk < total_of self.now) × (worker_of seat.new ≡ with_chunk chunk (worker_of seat.old))) }
+        ensures claimed { (next : ℕ) × (worker_of seat.new ≡ worker_after_claim (total_of self.now) next (worker_of seat.old))
+            × MatchOption result (total_of self.now ≤ next) (λ chunk. (chunk ≡ next) × (chunk < total_of self.now)) }
         ensures above { IfSome result (λ chunk. All (λ e. e.chunk < chunk) (worker_of seat.old).entries) }
     {
         let shared = &self.table.shared;

@@ -1,8 +1,7 @@
 // What holds of every schedule, as contracts of functions that do nothing.
 ghost use Rattle.std.specs.Prelude.{◌≡◌, ℕ, ◌≤◌, ◌<◌, ◌^◌, Bool, List, All};
 ghost use Rattle.geo_board.specs.declared.seat.Entry.{Entry};
-ghost use Rattle.geo_board.specs.declared.event.BoardEvent.{BoardEvent};
-ghost use Rattle.geo_board.specs.Machine.{IsWholeSchedule, final_state, final_entries, times, least_found};
+ghost use Rattle.geo_board.specs.Machine.{BoardEvent, IsWholeSchedule, final_state, final_entries, times, least_found};
 ghost use Rattle.geo_board.specs.Truth.{chunk_count, IsTruthful, IsAnswer};
 
 /// Once all workers have ended, whatever the schedule, each chunk was finished once, and the board has the least index

@@ -3,15 +3,11 @@
 #![tactic(auto)]
 
 mod board;
-mod event;
 mod laws;
-mod replay;
 mod rule;
 mod seat;
 
-pub use event::BoardEvent;
 pub use laws::{every_schedule, truthful_entries};
-pub use replay::run_events;
 pub use seat::{Board, BoardSeat, Entry, NoMemory};
 
 #[cfg(test)]

@@ -1,65 +1,8 @@
 ghost use Rattle.std.specs.Prelude.{All, IfSome};
 ghost use Rattle.geo_board.specs.BoardSeats.{IsInitialSeatOf};
 
-use crate::BoardEvent::{Claim, Finish, Look};
-use crate::{Board, BoardSeat, run_events};
+use crate::{Board, BoardSeat};
 use std::test::Fail;
-
-// Three schedules written by hand, with what least is at their ends.
-#[test]
-fn schedules_end_in_the_least_index_found(rt: HostRuntime) {
-    let both_find = [
-        Claim(0),
-        Claim(1),
-        Look(0),
-        Finish(1, 1500),
-        Finish(0, 700),
-        Claim(0),
-        Claim(1),
-    ];
-    assert!(rt; run_events(rt.alloc(), 2, 2, &both_find) == Ok(Some(700)));
-
-    let one_leaves_its_chunk = [
-        Claim(0),
-        Claim(1),
-        Look(0),
-        Finish(1, 2000),
-        Look(0),
-        Claim(1),
-        Finish(0, 700),
-        Look(1),
-        Finish(1, u64::MAX),
-        Claim(0),
-        Claim(1),
-    ];
-    assert!(rt; run_events(rt.alloc(), 3, 2, &one_leaves_its_chunk) == Ok(Some(700)));
-
-    let alone = [
-        Claim(0),
-        Look(0),
-        Finish(0, u64::MAX),
-        Claim(0),
-        Finish(0, u64::MAX),
-        Claim(0),
-    ];
-    assert!(rt; run_events(rt.alloc(), 2, 1, &alone) == Ok(Some(u64::MAX)));
-}
-
-#[test]
-fn an_event_that_is_not_allowed_is_told(rt: HostRuntime) {
-    let with_a_chunk = [Claim(0), Claim(0)];
-    let without_a_chunk = [Finish(0, 7)];
-    let after_its_end = [Claim(0), Finish(0, 7), Claim(0), Look(0), Claim(0)];
-    let of_nobody = [Look(1)];
-    for events in [
-        &with_a_chunk[..],
-        &without_a_chunk[..],
-        &after_its_end[..],
-        &of_nobody[..],
-    ] {
-        assert!(rt; run_events(rt.alloc(), 1, 1, events) == Ok(None));
-    }
-}
 
 fn crosses_threads<B: Sync, S: Send>(_board: &B, _seat: &S) {}
 
@@ -106,4 +49,14 @@ fn three_seats_share_two_chunks(rt: HostRuntime) -> Result<(), Fail> {
     all.push(second)?;
     assert!(rt; board.close(all) == 700);
     Ok(())
+}
+
+#[test]
+fn boards_of_few_and_of_many_workers(rt: HostRuntime) {
+    for (total, workers) in [(0, 1), (3, 2), (1024, 16)] {
+        match Board::new(rt.alloc(), total, workers) {
+            Ok((_board, seats)) => assert_eq!(rt; seats.len() as u64, workers),
+            Err(_) => panic!(rt; "no memory for {workers} workers"),
+        }
+    }
 }

@@ -1,4 +1,5 @@
 -- A statement depends on the values of its axes alone.
+-- lemmas for other crates
 use Rattle.std.proofs.Common.{◌≡◌, sym, ap, refl, inl, inr, ℕ, ◌+◌, ◌*◌, ◌<◌, max, ⊎_elim, List, [], ◌∷◌, ℤ, pos, arith}
 use Rattle.std.specs.Prelude.{◌==◌, nat_lt}
 use Rattle.std.proofs.lemmas.Bool.{cond_both, eqb-true, eqb-false, eq-eqb, ltb-false}
@@ -10,9 +11,10 @@ use Rattle.geo_sketch.specs.declared.elements.Def.TheVariants.{Free, Fixed, Cut,
 use Rattle.geo_sketch.specs.declared.elements.Element.{Element}
 use Rattle.geo_sketch.specs.declared.statements.Statement.{Statement}
 use Rattle.geo_sketch.specs.declared.statements.Statement.TheVariants as statement
-use Rattle.geo_sketch.specs.Constructions.{by_def, computed, AtNamed}
-use Rattle.geo_sketch.specs.Tables.{IsConstruction, IsLive}
-use Rattle.geo_sketch.specs.Triples.{coordinates, of_coordinates, parts_at, triple_algebra, triple_at}
+use Rattle.geo_sketch.specs.Constructions.{by_def, computed, AtNamed, IsConstruction}
+use Rattle.geo_sketch.specs.Lookups.{IsLive}
+use Rattle.geo_sketch.specs.Triples.{of_coordinates, triple_algebra, triple_at}
+use Rattle.geo_sketch.specs.Statements.{coordinates, parts_at}
 use Rattle.geo_sketch.proofs.ConstructionLaws.{both_named}
 use Rattle.geo_sketch.proofs.LiveElements.{related, live_step}
 use Rattle.geo_degree.specs.Degrees.{degree_algebra, degree_of, statement_degree}

@@ -1,4 +1,5 @@
 -- The axes of a statement rise, and each parameter with degree above 0 is one.
+-- lemmas for other crates
 use Rattle.std.proofs.Common.{◌≡◌, sym, ap, subst, refl, inl, inr, ℕ, zero, suc, ◌+◌, ◌*◌, ◌<◌, ◌≤◌, max, ◌⊎◌, ⊎_elim, Some, List, [], ◌∷◌, ◌++◌, arith, All}
 use Rattle.std.specs.Prelude.{Contains, AllPairs, ◌==◌, ◌||◌, nat_lt, Bool, true, false}
 use Rattle.std.proofs.lemmas.Bool.{cond_both, eqb-true, ltb-true, ltb-false}
@@ -9,9 +10,8 @@ use Rattle.geo_sketch.specs.declared.elements.Def.TheVariants.{Free, Fixed, Cut,
 use Rattle.geo_sketch.specs.declared.elements.Element.{Element}
 use Rattle.geo_sketch.specs.declared.statements.Statement.{Statement}
 use Rattle.geo_sketch.specs.declared.statements.Statement.TheVariants as statement
-use Rattle.geo_sketch.specs.Constructions.{by_def, computed, AtNamed}
-use Rattle.geo_sketch.specs.Sketches.{numbered, Rises}
-use Rattle.geo_sketch.specs.Tables.{IsConstruction}
+use Rattle.geo_sketch.specs.Constructions.{by_def, computed, AtNamed, IsConstruction}
+use Rattle.geo_sketch.specs.Lookups.{numbered, Rises}
 use Rattle.geo_sketch.proofs.ConstructionLaws.{at_named}
 use Rattle.geo_sketch.proofs.LiveElements.{related}
 use Rattle.geo_degree.specs.declared.grids.Axis.{Axis}
@@ -108,7 +108,7 @@ positive_made {Q} (Blend k m) n p f own s h =
     cond_both (2 * n == p) 1 (max (f k) (f m)) (λ (d : ℕ). 0 < d → Q) (λ t g. own (inl (eqb-true (2 * n) p t))) (λ t g. either_positive (f k) (f m) s.0 s.1 (omega arith)) h
 positive_made (Cross k m) n p f own s h = either_positive (f k) (f m) s.0 s.1 h
 
-has_parameter : (es : List Element) → IsConstruction es → (p n : ℕ) → 0 < degree_of es n p → Has p (parameters_of es)
+pub has_parameter : (es : List Element) → IsConstruction es → (p n : ℕ) → 0 < degree_of es n p → Has p (parameters_of es)
 has_parameter es c p =
     related es c (degree_algebra p) (degree_algebra p) (λ n d e. 0 < d → Has p (parameters_of es)) (λ n q h. absurd (omega arith))
     (λ n e q s h. positive_made e.def n p (computed (degree_algebra p) es) (has_own es n p e q) (at_named _ (λ k. 0 < degree_of es k p → Has p (parameters_of es)) e.def (λ k r. r.2) s) h)

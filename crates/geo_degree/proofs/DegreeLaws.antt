@@ -1,23 +1,26 @@
--- Degrees bound the coefficient lists, and heights at magnitude 3 bound degrees.
+-- Degrees bound the coefficient lists, and plain heights at magnitude 3 bound degrees.
 use Rattle.std.proofs.Common.{◌≡◌, ◌≢◌, refl, inl, inr, ℕ, ◌+◌, ◌*◌, ◌^◌, ◌≤◌, max, Option, None, Some, List, arith, mul-le-mul}
 use Rattle.std.specs.Prelude.{◌==◌, ◌||◌, ◌/◌}
 use Rattle.std.proofs.Math.Nat.{pow-le-pow_right, one-le-pow}
 use Rattle.std.proofs.lemmas.Nat.{pow-add}
 use Rattle.std.proofs.lemmas.Bool.{cond_both, cases_order, ne_eqb}
 use Rattle.std.proofs.lemmas.Bool.Decides.{nat_tests}
+use Rattle.geo_triple.proofs.Sums.{a-largest}
 use Rattle.geo_sketch.specs.declared.elements.Def.{Def}
 use Rattle.geo_sketch.specs.declared.elements.Def.TheVariants.{Free, Fixed, Cut, Blend, Cross}
 use Rattle.geo_sketch.specs.declared.elements.Element.{Element}
 use Rattle.geo_sketch.specs.declared.statements.Statement.{Statement}
 use Rattle.geo_sketch.specs.declared.statements.Statement.TheVariants as statement
-use Rattle.geo_sketch.specs.Constructions.{by_def, computed, AtNamed}
-use Rattle.geo_sketch.specs.Heights.{height_algebra, height_of, threes, height_limit}
-use Rattle.geo_sketch.specs.Sketches.{Drawing, IsDrawn, numbered}
-use Rattle.geo_sketch.specs.Tables.{IsLive, IsConstruction}
+use Rattle.geo_sketch.specs.Constructions.{by_def, computed, AtNamed, IsConstruction}
+use Rattle.geo_sketch.specs.Heights.{heights_at}
+use Rattle.geo_sketch.specs.PlainHeights.{plain_height_algebra, plain_height_of, threes, height_limit}
+use Rattle.geo_sketch.specs.Sketches.{Drawing, IsDrawn}
+use Rattle.geo_sketch.specs.Lookups.{numbered, IsLive}
 use Rattle.geo_sketch.proofs.ConstructionLaws.{at_named}
-use Rattle.geo_sketch.proofs.HeightLaws.{low}
+use Rattle.geo_sketch.proofs.PlainHeightLaws.{low}
 use Rattle.geo_sketch.proofs.LiveElements.{related, live_step, absent_step}
-use Rattle.geo_height.proofs.HeightLaws.{constructed, positive}
+use Rattle.geo_height.proofs.HeightLaws.{plain_below, positive}
+use Rattle.geo_sketch.proofs.SketchLaws.{constructed}
 use Rattle.geo_degree.specs.Degrees.{degree_algebra, degree_of, statement_degree, element_degree_limit, statement_degree_limit}
 
 -- ---- parameters in which the degree is 0
@@ -47,7 +50,7 @@ degree_foreign es c p n none =
     related es c (degree_algebra p) (degree_algebra p) (λ n d e. d ≡ 0) (λ n q. refl)
     (λ n e q s. foreign_made e.def n p (computed (degree_algebra p) es) (λ same. let other = rw same at none in cc) (at_named _ (λ k. degree_of es k p ≡ 0) e.def (λ k p. p.2) s)) n
 
--- ---- 3 to the power of the degree is at most the height at magnitude 3
+-- ---- 3 to the power of the degree is at most the plain height at magnitude 3
 power_of_larger : (a b : ℕ) → 3 ^ max a b ≤ 3 ^ a + 3 ^ b
 power_of_larger a b =
     elim (cases_order a b) [
@@ -68,7 +71,7 @@ small_exponent d h =
       ]
     ]
 
-power_made : (d : Def) (n p : ℕ) (f g : ℕ → ℕ) → 1 ≤ by_def (height_algebra threes) n d g → AtNamed d (λ k. 3 ^ f k ≤ g k) → 3 ^ by_def (degree_algebra p) n d f ≤ by_def (height_algebra threes) n d g
+power_made : (d : Def) (n p : ℕ) (f g : ℕ → ℕ) → 1 ≤ by_def (plain_height_algebra threes) n d g → AtNamed d (λ k. 3 ^ f k ≤ g k) → 3 ^ by_def (degree_algebra p) n d f ≤ by_def (plain_height_algebra threes) n d g
 power_made Free n p f g one s = cond_both (2 * n == p || 2 * n + 1 == p) 1 0 (λ d. 3 ^ d ≤ 3) (λ t. omega arith) (λ t. omega arith)
 power_made (Fixed a b c) n p f g one s = one
 power_made (Cut k) n p f g one s = cond_both (2 * n == p) 1 (f k) (λ d. 3 ^ d ≤ (1 + 3) * g k) (λ t. omega (arith, one)) (λ t. omega (arith, s))
@@ -79,12 +82,15 @@ power_made (Blend k m) n p f g one s =
 power_made (Cross k m) n p f g one s = rw (pow-add 3 (f k) (f m)) (omega (arith, mul-le-mul s.0 s.1))
 
 module _ (drawing : Drawing) (drawn : IsDrawn drawing) where
-  power_within : (p n : ℕ) → IsLive drawing.elements n → 3 ^ degree_of drawing.elements n p ≤ height_of drawing.elements n threes
+  plain_positive : (n : ℕ) → IsLive drawing.elements n → 1 ≤ plain_height_of drawing.elements n threes
+  plain_positive n l = omega (arith, (positive drawing.elements (constructed drawing drawn) threes n l).a, a-largest (heights_at drawing.elements n threes), plain_below drawing drawn threes n)
+
+  power_within : (p n : ℕ) → IsLive drawing.elements n → 3 ^ degree_of drawing.elements n p ≤ plain_height_of drawing.elements n threes
   power_within p =
-      related drawing.elements (constructed drawing drawn) (degree_algebra p) (height_algebra threes) (λ n d h. IsLive drawing.elements n → 3 ^ d ≤ h) (λ n q l. absurd (let found = l.1 in cc))
-      (λ n e q s l. power_made e.def n p (computed (degree_algebra p) drawing.elements) (computed (height_algebra threes) drawing.elements)
-      (let one = positive drawing drawn threes n l in omega (arith, one, live_step drawing.elements (constructed drawing drawn) (height_algebra threes) n e q))
-      (at_named _ (λ k. 3 ^ degree_of drawing.elements k p ≤ height_of drawing.elements k threes) e.def (λ k p. p.2 p.1) s))
+      related drawing.elements (constructed drawing drawn) (degree_algebra p) (plain_height_algebra threes) (λ n d h. IsLive drawing.elements n → 3 ^ d ≤ h) (λ n q l. absurd (let found = l.1 in cc))
+      (λ n e q s l. power_made e.def n p (computed (degree_algebra p) drawing.elements) (computed (plain_height_algebra threes) drawing.elements)
+      (let one = plain_positive n l in omega (arith, one, live_step drawing.elements (constructed drawing drawn) (plain_height_algebra threes) n e q))
+      (at_named _ (λ k. 3 ^ degree_of drawing.elements k p ≤ plain_height_of drawing.elements k threes) e.def (λ k p. p.2 p.1) s))
 
   pub element_degree_low : (n p : ℕ) → degree_of drawing.elements n p ≤ element_degree_limit
   element_degree_low n p = by_found (numbered drawing.elements n) refl

@@ -13,9 +13,9 @@ use Rattle.geo_sketch.specs.declared.elements.Def.TheVariants.{Free, Fixed, Cut,
 use Rattle.geo_sketch.specs.declared.elements.Element.{Element}
 use Rattle.geo_sketch.specs.declared.statements.Statement.{Statement}
 use Rattle.geo_sketch.specs.declared.statements.Statement.TheVariants as statement
-use Rattle.geo_sketch.specs.Constructions.{by_def, computed, AtNamed}
-use Rattle.geo_sketch.specs.Tables.{IsConstruction}
-use Rattle.geo_sketch.specs.Triples.{triple_algebra, triple_at, of_coordinates, coordinates, parts_at}
+use Rattle.geo_sketch.specs.Constructions.{by_def, computed, AtNamed, IsConstruction}
+use Rattle.geo_sketch.specs.Triples.{triple_algebra, triple_at, of_coordinates}
+use Rattle.geo_sketch.specs.Statements.{coordinates, parts_at}
 use Rattle.geo_sketch.proofs.ConstructionLaws.{at_named}
 use Rattle.geo_sketch.proofs.LiveElements.{related}
 use Rattle.geo_degree.specs.Degrees.{degree_algebra, degree_of, statement_degree}
@@ -26,7 +26,7 @@ use Rattle.geo_degree.proofs.DegreeLaws.{degree_later}
 abbrev pub at : Lists → ℤ → Triple
 at s x = of_coordinates (value_at s.a x) (value_at s.b x) (value_at s.c x)
 
-same_triple : {a b c d e f : ℤ} → a ≡ d → b ≡ e → c ≡ f → of_coordinates a b c ≡ of_coordinates d e f
+pub same_triple : {a b c d e f : ℤ} → a ≡ d → b ≡ e → c ≡ f → of_coordinates a b c ≡ of_coordinates d e f
 same_triple p q r = λ i. of_coordinates (p i) (q i) (r i)
 
 at-cross : (s t : Lists) (x : ℤ) → at (cross_of_lists s t) x ≡ cross_of (at s x) (at t x)

@@ -6,7 +6,7 @@ use Rattle.geo_sketch.specs.declared.verdicts.Past.TheVariants.{Size, Height}
 use Rattle.geo_sketch.specs.declared.verdicts.Verdict.{Verdict}
 use Rattle.geo_sketch.specs.declared.verdicts.Verdict.TheVariants.{Proved, False, Unsettled}
 use Rattle.geo_degree.specs.Questions.{Question, IsClear, IsLeastFailing, point, sample}
-use Rattle.geo_degree.specs.Verdicts.{named, IsFirstFailing, IsPast, IsGridVerdict, IsSampleVerdict, IsVerdict}
+use Rattle.geo_degree.specs.Verdicts.{named, IsFirstFailingSample, IsPast, IsGridVerdict, IsSampleVerdict, IsVerdict}
 
 module _ (q : Question) where
   least_same : (i j : ℕ) → IsLeastFailing q i → IsLeastFailing q j → i ≡ j
@@ -19,7 +19,7 @@ module _ (q : Question) where
         ]
       ]
 
-  first_same : (s t : ℕ) → IsFirstFailing q s → IsFirstFailing q t → s ≡ t
+  first_same : (s t : ℕ) → IsFirstFailingSample q s → IsFirstFailingSample q t → s ≡ t
   first_same s t h g =
       elim (cases_order s t) [
         | inl e ↦ e
@@ -31,8 +31,8 @@ module _ (q : Question) where
 
   past_same : (p r : Past) → IsPast q p → IsPast q r → p ≡ r
   past_same Size Size h g = refl
-  past_same Size Height h g = absurd (omega (arith, h, g))
-  past_same Height Size h g = absurd (omega (arith, h, g))
+  past_same Size Height h g = absurd (omega (arith, h, g.0))
+  past_same Height Size h g = absurd (omega (arith, h.0, g))
   past_same Height Height h g = refl
 
   grid_same : (holds : Type 0) → (holds → IsClear q) → (r t : Verdict) → IsGridVerdict q holds r → IsGridVerdict q holds t → r ≡ t

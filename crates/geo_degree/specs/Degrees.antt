@@ -1,19 +1,20 @@
 -- The degree of an element in a parameter: how often the parameter stands as a factor
 -- in a term of a coordinate, at most.
-use Rattle.std.specs.Prelude.{ℕ, ◌+◌, ◌*◌, ◌==◌, ◌||◌, if◌then◌else◌, max, List}
+use Rattle.std.specs.Prelude.{ℕ, ◌+◌, ◌==◌, ◌||◌, if◌then◌else◌, max, List}
 use Rattle.geo_sketch.specs.declared.elements.Element.{Element}
 use Rattle.geo_sketch.specs.declared.statements.Statement.{Statement}
 use Rattle.geo_sketch.specs.declared.statements.Statement.TheVariants as statement
+use Rattle.geo_sketch.specs.Assignments.{first_parameter, second_parameter}
 use Rattle.geo_sketch.specs.Constructions.{Algebra, computed}
 
 -- in the parameter p
 abbrev pub degree_algebra : ℕ → Algebra ℕ
 degree_algebra p = record {
   absent = λ n. 0;
-  free = λ n. if 2 * n == p || 2 * n + 1 == p then 1 else 0;
+  free = λ n. if first_parameter n == p || second_parameter n == p then 1 else 0;
   fixed = λ n a b c. 0;
-  cut = λ n d. if 2 * n == p then 1 else d;
-  blend = λ n d e. if 2 * n == p then 1 else max d e;
+  cut = λ n d. if first_parameter n == p then 1 else d;
+  blend = λ n d e. if first_parameter n == p then 1 else max d e;
   cross = λ n d e. d + e;
 }
 

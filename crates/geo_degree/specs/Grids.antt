@@ -5,16 +5,17 @@ use Rattle.geo_sketch.specs.declared.elements.Def.{Def}
 use Rattle.geo_sketch.specs.declared.elements.Def.TheVariants.{Free, Fixed, Cut, Blend, Cross}
 use Rattle.geo_sketch.specs.declared.elements.Element.{Element}
 use Rattle.geo_sketch.specs.declared.statements.Statement.{Statement}
+use Rattle.geo_sketch.specs.Assignments.{first_parameter, second_parameter}
 use Rattle.geo_degree.specs.declared.grids.Axis.{Axis}
 use Rattle.geo_degree.specs.Degrees.{statement_degree}
 
 -- ---- axes
 -- the parameters of element n
 abbrev pub own_parameters : ℕ → Def → List ℕ
-own_parameters n Free = (2 * n) ∷ (2 * n + 1) ∷ []
+own_parameters n Free = first_parameter n ∷ second_parameter n ∷ []
 own_parameters n (Fixed a b c) = []
-own_parameters n (Cut k) = (2 * n) ∷ []
-own_parameters n (Blend k m) = (2 * n) ∷ []
+own_parameters n (Cut k) = first_parameter n ∷ []
+own_parameters n (Blend k m) = first_parameter n ∷ []
 own_parameters n (Cross k m) = []
 
 -- the parameters of all elements
@@ -63,32 +64,18 @@ abbrev pub axis_magnitude : Axis → ℕ
 axis_magnitude a = (a.degree + 1) / 2
 
 -- ---- the points
--- a block has some of the axes, which follow on one another, and is the list of its
--- points: each gives every one of these axes a value. A grid is a list of blocks, which
--- together have all the axes
-abbrev pub Block : Type 0
-Block = List (List ℤ)
-
--- an axis by itself: a point for each of its values
-abbrev pub block_of : Axis → Block
-block_of a = map (λ x. x ∷ []) (axis_values a)
-
--- the grid that some axes make: a block for each
-abbrev pub grid_of : List Axis → List Block
-grid_of [] = []
-grid_of (a ∷ axes) = block_of a ∷ grid_of axes
+-- a block has some of the axes, which follow on one another; these are its points, of
+-- which each gives every one of these axes a value. A grid has such a list for each block,
+-- and the blocks together have all the axes
+abbrev pub Points : Type 0
+Points = List (List ℤ)
 
 -- how many points a grid has
-abbrev pub grid_size : List Block → ℕ
+abbrev pub grid_size : List Points → ℕ
 grid_size [] = 1
 grid_size (block ∷ blocks) = length block * grid_size blocks
 
 -- the values at point i: i in mixed radix over the blocks, whose last digit runs fastest
-abbrev pub grid_point : List Block → ℕ → List ℤ
+abbrev pub grid_point : List Points → ℕ → List ℤ
 grid_point [] i = []
 grid_point (block ∷ blocks) i = slice_index_or block (i / grid_size blocks) [] ++ grid_point blocks (i % grid_size blocks)
-
--- the digits of that: for each block the place of its point
-abbrev pub digits : List Block → ℕ → List ℕ
-digits [] i = []
-digits (block ∷ blocks) i = i / grid_size blocks ∷ digits blocks (i % grid_size blocks)

@@ -1,6 +1,9 @@
 pub mod Degrees
 pub mod Polynomials
-pub mod Columns
+pub mod PairPolynomials
+pub mod Rows
 pub mod Grids
+pub mod Blocks
 pub mod Questions
 pub mod Verdicts
+pub mod VerdictFunction

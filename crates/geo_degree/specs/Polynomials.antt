@@ -1,10 +1,11 @@
 -- The coordinates of an element as polynomials in one parameter, all others fixed: a
 -- coefficient list for each, by recursion on the construction.
-use Rattle.std.specs.Prelude.{ℕ, ◌+◌, ◌*◌, ◌≤◌, ◌==◌, if◌then◌else◌, ℤ, pos, negsuc, List, [], ◌∷◌, length}
+use Rattle.std.specs.Prelude.{ℕ, ◌≤◌, ◌==◌, if◌then◌else◌, ℤ, pos, negsuc, List, [], ◌∷◌, length}
 use Rattle.geo_law.specs.Coefficients.{value_at, sum_of_lists, multiple_of_list, difference_of_lists, product_of_lists}
 use Rattle.geo_sketch.specs.declared.elements.Element.{Element}
 use Rattle.geo_sketch.specs.declared.statements.Statement.{Statement}
 use Rattle.geo_sketch.specs.declared.statements.Statement.TheVariants as statement
+use Rattle.geo_sketch.specs.Assignments.{first_parameter, second_parameter}
 use Rattle.geo_sketch.specs.Constructions.{Algebra, computed}
 
 -- a coefficient list for each coordinate
@@ -43,10 +44,10 @@ parameter_list v p q = if q == p then pos 0 ∷ pos 1 ∷ [] else v q ∷ []
 abbrev pub list_algebra : (ℕ → ℤ) → ℕ → Algebra Lists
 list_algebra v p = record {
   absent = λ n. of_lists [] [] [];
-  free = λ n. of_lists (parameter_list v p (2 * n)) (parameter_list v p (2 * n + 1)) (pos 1 ∷ []);
+  free = λ n. of_lists (parameter_list v p (first_parameter n)) (parameter_list v p (second_parameter n)) (pos 1 ∷ []);
   fixed = λ n a b c. of_lists (a ∷ []) (b ∷ []) (c ∷ []);
-  cut = λ n s. cut_of_lists s (parameter_list v p (2 * n));
-  blend = λ n s t. blend_of_lists s t (parameter_list v p (2 * n));
+  cut = λ n s. cut_of_lists s (parameter_list v p (first_parameter n));
+  blend = λ n s t. blend_of_lists s t (parameter_list v p (first_parameter n));
   cross = λ n s t. cross_of_lists s t;
 }
 

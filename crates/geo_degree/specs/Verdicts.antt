@@ -6,14 +6,17 @@ use Rattle.geo_sketch.specs.declared.verdicts.Past.{Past}
 use Rattle.geo_sketch.specs.declared.verdicts.Past.TheVariants.{Size, Height}
 use Rattle.geo_sketch.specs.declared.verdicts.Verdict.{Verdict}
 use Rattle.geo_sketch.specs.declared.verdicts.Verdict.TheVariants.{Proved, False, Unsettled}
+use Rattle.geo_sketch.specs.Assignments.{element_of_parameter}
 use Rattle.geo_sketch.specs.Heights.{statement_height}
 use Rattle.geo_sketch.specs.Samples.{sample_count}
-use Rattle.geo_sketch.specs.Sketches.{Drawing, IsDrawn, IsPosed}
-use Rattle.geo_sketch.specs.Triples.{Holds, parts_at}
+use Rattle.geo_sketch.specs.Statements.{Holds, parts_at}
+use Rattle.geo_height.specs.Capped.{statement_limit}
 use Rattle.geo_degree.specs.declared.grids.Axis.{Axis}
+use Rattle.geo_degree.specs.Blocks.{blocks_of}
 use Rattle.geo_degree.specs.Grids.{at_axes, axis, axes_of, grid_size}
+use Rattle.geo_degree.specs.PairPolynomials.{part_tables}
 use Rattle.geo_degree.specs.Polynomials.{part_lists}
-use Rattle.geo_degree.specs.Questions.{Question, blocks, point, sample, size_limit, IsLeastFailing, IsWithinLimits, IsZeroAt}
+use Rattle.geo_degree.specs.Questions.{Question, grid_magnitudes, grid_of, point, sample, size_limit, IsLeastFailing, IsWithinLimits, IsZeroAt}
 
 -- each axis with its value
 abbrev pub named : List Axis → List ℤ → List (ℕ × ℤ)
@@ -22,7 +25,7 @@ named (a ∷ axes) [] = []
 named (a ∷ axes) (x ∷ xs) = (a.param, x) ∷ named axes xs
 
 -- s is the first sample position at which a part is not 0
-pub record IsFirstFailing (q : Question) (s : ℕ) : Type 0 where
+pub record IsFirstFailingSample (q : Question) (s : ℕ) : Type 0 where
   pub within : s < sample_count
   pub fails : ¬ IsZeroAt q (sample q s)
   pub first : (t : ℕ) → t < s → IsZeroAt q (sample q t)
@@ -31,11 +34,10 @@ pub record IsFirstFailing (q : Question) (s : ℕ) : Type 0 where
 abbrev pub IsZeroAtSamples : Question → Type 0
 IsZeroAtSamples q = (s : ℕ) → s < sample_count → IsZeroAt q (sample q s)
 
--- the size passes its limit; or it does not, so that outside of the limits it is the
--- height that passes its own
+-- the size passes its limit; or it does not, and the height passes its own
 abbrev pub IsPast : Question → Past → Type 0
-IsPast q Size = size_limit < grid_size (blocks q)
-IsPast q Height = grid_size (blocks q) ≤ size_limit
+IsPast q Size = size_limit < grid_size (grid_of q)
+IsPast q Height = (grid_size (grid_of q) ≤ size_limit) × (statement_limit < q.height_at (grid_magnitudes q))
 
 -- where the grid is within the limits: proved where the question holds, else false at the
 -- values of the least index at which a part is not 0
@@ -48,7 +50,7 @@ IsGridVerdict q holds (Unsettled past) = ⊥
 -- else not settled, for its size or else for its height
 abbrev pub IsSampleVerdict : Question → Verdict → Type 0
 IsSampleVerdict q Proved = ⊥
-IsSampleVerdict q (False values) = (s : ℕ) × IsFirstFailing q s × (values ≡ named q.axes (sample q s))
+IsSampleVerdict q (False values) = (s : ℕ) × IsFirstFailingSample q s × (values ≡ named q.axes (sample q s))
 IsSampleVerdict q (Unsettled past) = IsZeroAtSamples q × IsPast q past
 
 -- the verdict, where `holds` says that the question does
@@ -67,23 +69,20 @@ abbrev pub statement_coefficients : List Element → Statement → List ℤ → 
 statement_coefficients es s xs k place =
     slice_index_or (part_lists es s (at_axes (pos 0) (axes_of es s) xs) (slice_index_or (axes_of es s) place (axis 0 0)).param) k []
 
+-- of part k, in the two axes at a pair of places, which are the parameters of one element
+abbrev pub statement_table : List Element → Statement → List ℤ → ℕ → ℕ × ℕ → List (List ℤ)
+statement_table es s xs k p =
+    slice_index_or (part_tables es s (at_axes (pos 0) (axes_of es s) xs) (element_of_parameter (slice_index_or (axes_of es s) p.0 (axis 0 0)).param)) k []
+
 abbrev pub question_of : List Element → Statement → Question
 question_of es s = record {
   axes = axes_of es s;
+  blocks = blocks_of es s;
   parts_at = statement_parts es s;
   coefficients = statement_coefficients es s;
+  table = statement_table es s;
   height_at = statement_height_at es s;
 }
 
 abbrev pub IsStatementVerdict : List Element → Statement → Verdict → Type 0
 IsStatementVerdict es s r = IsVerdict (question_of es s) (Holds es s) r
-
--- ---- of all statements
--- a verdict for each statement about some elements
-abbrev pub Verdicts : Type 0
-Verdicts = List Element → Statement → Verdict
-
--- each is the verdict, wherever the elements are those of a sketch and the statement is
--- posed in it. There are such verdicts, and no two of them differ
-abbrev pub AreRight : Verdicts → Type 0
-AreRight verdict_of = (drawing : Drawing) (s : Statement) → IsDrawn drawing → IsPosed drawing.elements s → IsStatementVerdict drawing.elements s (verdict_of drawing.elements s)

@@ -1,18 +1,26 @@
 //! Laws of degrees and grids: functions that do nothing, whose contracts are the laws.
 
-ghost use Rattle.std.specs.Prelude.{◌≡◌, ℕ, ◌+◌, ◌<◌, ◌≤◌, ◌↔◌, ℤ, unsigned_abs, List, length, map, All, AllPairs, Contains};
+ghost use Rattle.std.specs.Prelude.{◌≡◌, ℕ, ◌+◌, ◌<◌, ◌≤◌, ◌↔◌, ℤ, unsigned_abs, Some, List, length, map, All, AllPairs, Contains};
 ghost use Rattle.std.specs.List.{AllZip};
 ghost use Rattle.geo_law.specs.Coefficients.{AreDistinct};
-ghost use Rattle.geo_law.specs.Grids.{IsTaken};
+ghost use Rattle.geo_sketch.specs.declared.elements.Def.TheVariants.{Free};
+ghost use Rattle.geo_sketch.specs.declared.elements.Element.{Element as Entry};
 ghost use Rattle.geo_sketch.specs.declared.statements.Statement.{Statement as Posed};
 ghost use Rattle.geo_sketch.specs.declared.verdicts.Verdict.{Verdict as Found};
-ghost use Rattle.geo_sketch.specs.Sketches.{Drawing, IsDrawn, IsPosed};
-ghost use Rattle.geo_sketch.specs.Triples.{coordinates, parts_at, triple_at, Holds};
+ghost use Rattle.geo_sketch.specs.Assignments.{first_parameter, second_parameter};
+ghost use Rattle.geo_sketch.specs.Sketches.{Drawing, IsDrawn, IsPosed, parameter_limit};
+ghost use Rattle.geo_sketch.specs.Lookups.{numbered};
+ghost use Rattle.geo_sketch.specs.Triples.{triple_at};
+ghost use Rattle.geo_sketch.specs.Statements.{coordinates, parts_at, Holds};
 ghost use Rattle.geo_degree.specs.declared.grids.Axis.{Axis as GridAxis};
+ghost use Rattle.geo_degree.specs.declared.grids.Block.{Block as GridBlock};
+ghost use Rattle.geo_degree.specs.Blocks.{AreDigits, point_count, points_of, points_of_all, rank};
 ghost use Rattle.geo_degree.specs.Degrees.{degree_of, element_degree_limit, statement_degree, statement_degree_limit};
-ghost use Rattle.geo_degree.specs.Grids.{axes_of, axis, axis_magnitude, axis_values, grid_of, grid_point, grid_size, values_on};
+ghost use Rattle.geo_degree.specs.Grids.{axes_of, axis, axis_values, grid_point, grid_size, grid_value, values_on};
+ghost use Rattle.geo_degree.specs.PairPolynomials.{AreTriangles, coordinate_tables, part_tables, tables_of, values_of_tables, with_pair};
 ghost use Rattle.geo_degree.specs.Polynomials.{AreShort, coordinate_lists, lists_of, part_lists, values_at, with_value};
-ghost use Rattle.geo_degree.specs.Questions.{Question, IsClear, IsForm, IsZeroEverywhere};
+ghost use Rattle.geo_degree.specs.Questions.{Question, IsClear, IsForm, IsZeroEverywhere, grid_magnitudes, grid_of, point, size_limit};
+ghost use Rattle.geo_degree.specs.VerdictFunction.{verdict_of};
 ghost use Rattle.geo_degree.specs.Verdicts.{question_of, statement_parts, IsVerdict, IsStatementVerdict};
 
 /// In each parameter p, with all others fixed at any whole numbers, each coordinate of
@@ -29,8 +37,24 @@ pub fn parts_are_polynomials()
     ensures lengths { (drawing : Drawing) (s : Posed) (p : ℕ) (v : ℕ → ℤ) → IsDrawn drawing → AreShort (statement_degree drawing.elements s p + 1) (part_lists drawing.elements s v p) }
 {}
 
+/// In the two parameters of element m together, with all others fixed at any whole
+/// numbers, each coordinate of an element is the value of its table of coefficients, whose
+/// total degree is at most the degree in the first of them. So is each part of a statement.
+pub fn pairs_are_polynomials()
+    ensures coordinate_values { (drawing : Drawing) (n m : ℕ) (v : ℕ → ℤ) (x y : ℤ) → IsDrawn drawing → values_of_tables (coordinate_tables (tables_of drawing.elements n v m)) x y ≡ coordinates (triple_at drawing.elements n (with_pair v m x y)) }
+    ensures coordinate_degrees { (drawing : Drawing) (n m : ℕ) (v : ℕ → ℤ) → IsDrawn drawing → AreTriangles (degree_of drawing.elements n (first_parameter m)) (coordinate_tables (tables_of drawing.elements n v m)) }
+    ensures part_values { (drawing : Drawing) (s : Posed) (m : ℕ) (v : ℕ → ℤ) (x y : ℤ) → IsDrawn drawing → values_of_tables (part_tables drawing.elements s v m) x y ≡ parts_at drawing.elements s (with_pair v m x y) }
+    ensures part_degrees { (drawing : Drawing) (s : Posed) (m : ℕ) (v : ℕ → ℤ) → IsDrawn drawing → AreTriangles (statement_degree drawing.elements s (first_parameter m)) (part_tables drawing.elements s v m) }
+{}
+
+/// Elements and statements have one degree in both parameters of a free element.
+pub fn pairs_have_one_degree()
+    ensures element { (drawing : Drawing) (n m : ℕ) (e : Entry) → IsDrawn drawing → numbered drawing.elements m ≡ Some e → e.def ≡ Free → degree_of drawing.elements n (first_parameter m) ≡ degree_of drawing.elements n (second_parameter m) }
+    ensures statement { (drawing : Drawing) (s : Posed) (m : ℕ) (e : Entry) → IsDrawn drawing → numbered drawing.elements m ≡ Some e → e.def ≡ Free → statement_degree drawing.elements s (first_parameter m) ≡ statement_degree drawing.elements s (second_parameter m) }
+{}
+
 /// The degree in one parameter is at most 25 for an element and 75 for a statement,
-/// since no element is tall: 3 to the power of the degree is at most the height at
+/// since no element is tall: 3 to the power of the degree is at most the plain height at
 /// magnitude 3.
 pub fn degrees_are_low()
     ensures element { (drawing : Drawing) (n p : ℕ) → IsDrawn drawing → degree_of drawing.elements n p ≤ element_degree_limit }
@@ -57,16 +81,38 @@ pub fn axis_has_enough_values()
     ensures count { (a : GridAxis) → length (axis_values a) ≡ a.degree + 1 }
 {}
 
-/// The points of a grid are the lists that are taken from the values of its axes, and
-/// their entries are in absolute value at most the magnitudes of the axes.
-pub fn points_are_taken_from_the_axes()
-    ensures taken { (axes : List GridAxis) (i : ℕ) → i < grid_size (grid_of axes) → IsTaken (map axis_values axes) (grid_point (grid_of axes) i) }
-    ensures each_is_a_point { (axes : List GridAxis) (xs : List ℤ) → IsTaken (map axis_values axes) xs → (i : ℕ) × (i < grid_size (grid_of axes)) × (grid_point (grid_of axes) i ≡ xs) }
-    ensures bounded { (axes : List GridAxis) (i : ℕ) → i < grid_size (grid_of axes) → AllZip (λ x m. unsigned_abs x ≤ m) (grid_point (grid_of axes) i) (map axis_magnitude axes) }
+/// A triangle of degree d has (d + 1)(d + 2) / 2 points. A point of a grid has one value for
+/// each axis, which is in absolute value at most the magnitude of the axis.
+pub fn points_have_a_value_for_each_axis()
+    ensures count { (b : GridBlock) → length (points_of b) ≡ point_count b }
+    ensures one_each { (q : Question) (i : ℕ) → IsForm q → i < grid_size (grid_of q) → length (point q i) ≡ length q.axes }
+    ensures bounded { (q : Question) (i : ℕ) → IsForm q → i < grid_size (grid_of q) → AllZip (λ x m. unsigned_abs x ≤ m) (point q i) (grid_magnitudes q) }
 {}
 
-/// A statement asks what a grid can answer: its parts are polynomials in its axes, with
-/// the degrees of these, and its height bounds them.
+/// Each index has digits, and no two lists of digits have one index. The values at a point
+/// are those whose numbers are the digits.
+pub fn points_are_numbered_by_digits()
+    ensures each_has_digits { (bs : List GridBlock) (i : ℕ) → i < grid_size (points_of_all bs) → (ds : List ℕ) × AreDigits bs ds × (rank bs ds ≡ i) }
+    ensures within { (bs : List GridBlock) (ds : List ℕ) → AreDigits bs ds → rank bs ds < grid_size (points_of_all bs) }
+    ensures one_index { (bs : List GridBlock) (ds es : List ℕ) → AreDigits bs ds → AreDigits bs es → rank bs ds ≡ rank bs es → ds ≡ es }
+    ensures values { (bs : List GridBlock) (ds : List ℕ) → AreDigits bs ds → grid_point (points_of_all bs) (rank bs ds) ≡ map grid_value ds }
+{}
+
+/// A grid within the limit of its size has at most as many axes as a sketch has parameters,
+/// since a Pair has at least 3 points and a One at least 2.
+pub fn grids_have_few_axes()
+    ensures { (q : Question) → IsForm q → grid_size (grid_of q) ≤ size_limit → length q.axes ≤ parameter_limit }
+{}
+
+/// What is 0 at every grid point is 0 at all whole-number values of the axes: a part has, in
+/// each Pair, a total degree that is at most the Pair's, and in each other axis a degree that
+/// is at most the axis's (Zhang, Yang and Deng 1990, on triangles).
+pub fn clear_is_zero_everywhere()
+    ensures { (q : Question) → IsForm q → IsClear q → IsZeroEverywhere q }
+{}
+
+/// A statement asks what a grid can answer: its parts are polynomials in its axes and in the
+/// two of each Pair, with the degrees of these, and its height bounds them.
 pub fn statements_are_forms()
     ensures { (drawing : Drawing) (s : Posed) → IsDrawn drawing → IsPosed drawing.elements s → IsForm (question_of drawing.elements s) }
 {}
@@ -81,5 +127,13 @@ pub fn holds_by_the_axes_alone()
 pub fn one_verdict()
     ensures clear { (drawing : Drawing) (s : Posed) → Holds drawing.elements s → IsClear (question_of drawing.elements s) }
     ensures one { (drawing : Drawing) (s : Posed) (r t : Found) → IsStatementVerdict drawing.elements s r → IsStatementVerdict drawing.elements s t → r ≡ t }
-    ensures of_questions { (q : Question) (r t : Found) → IsVerdict q (IsZeroEverywhere q) r → IsVerdict q (IsZeroEverywhere q) t → r ≡ t }
+    ensures of_questions { (q : Question) (r t : Found) → IsForm q → IsVerdict q (IsZeroEverywhere q) r → IsVerdict q (IsZeroEverywhere q) t → r ≡ t }
+{}
+
+/// The verdict as a function is the verdict, on questions and on statements, and no other is.
+pub fn verdict_of_is_the_verdict()
+    ensures verdict { (q : Question) → IsForm q → IsVerdict q (IsZeroEverywhere q) (verdict_of q) }
+    ensures no_other { (q : Question) (r : Found) → IsForm q → IsVerdict q (IsZeroEverywhere q) r → r ≡ verdict_of q }
+    ensures of_statements { (drawing : Drawing) (s : Posed) → IsDrawn drawing → IsPosed drawing.elements s → IsStatementVerdict drawing.elements s (verdict_of (question_of drawing.elements s)) }
+    ensures no_other_of_statements { (drawing : Drawing) (s : Posed) (r : Found) → IsDrawn drawing → IsPosed drawing.elements s → IsStatementVerdict drawing.elements s r → r ≡ verdict_of (question_of drawing.elements s) }
 {}

@@ -7,11 +7,13 @@ mod grids;
 mod laws;
 
 pub use degrees::Degrees;
-pub use grids::{Axis, grid_value};
+pub use grids::{Axis, Block, grid_value};
 pub use laws::{
-    axes_are_the_parameters, axis_has_enough_values, coordinates_are_polynomials, degrees_are_low,
-    holds_by_the_axes_alone, one_verdict, parts_are_polynomials, parts_by_the_axes_alone,
-    points_are_taken_from_the_axes, statements_are_forms,
+    axes_are_the_parameters, axis_has_enough_values, clear_is_zero_everywhere,
+    coordinates_are_polynomials, degrees_are_low, grids_have_few_axes, holds_by_the_axes_alone,
+    one_verdict, pairs_are_polynomials, pairs_have_one_degree, parts_are_polynomials,
+    parts_by_the_axes_alone, points_are_numbered_by_digits, points_have_a_value_for_each_axis,
+    statements_are_forms, verdict_of_is_the_verdict,
 };
 
 #[cfg(test)]

@@ -1,7 +1,6 @@
 -- A scene follows a drag by what depends on the dragged element alone.
-use Rattle.std.proofs.Common.{◌≡◌, ◌≢◌, ◌∙◌, sym, ap, subst, refl, ℕ, ◌+◌, ◌<◌, ◌≤◌, Bool, true, false, Option, None, Some, option_map, List, length, get_or, take, if◌then◌else◌, arith, inl, inr}
-use Rattle.std.specs.Prelude.{slice_set, slice_index_or, count_by}
-use Rattle.std.proofs.lemmas.Bool.{cases_eq}
+use Rattle.std.proofs.Common.{◌≡◌, ◌≢◌, ◌∙◌, sym, ap, refl, ℕ, ◌+◌, ◌<◌, ◌≤◌, Bool, true, false, Option, None, Some, option_map, List, length, get_or, set, take, if◌then◌else◌, add-one, arith}
+use Rattle.std.specs.Prelude.{count_by}
 use Rattle.std.proofs.lemmas.List.{get_or-set_same, get_or-set_other, length-set}
 use Rattle.std.proofs.lemmas.List.Sums.{count_by_more_yes, count_by_more_no}
 use Rattle.geo_sketch.specs.declared.elements.Setting.{Setting}
@@ -9,19 +8,18 @@ use Rattle.geo_sketch.specs.declared.elements.Setting.TheVariants as setting
 use Rattle.geo_sketch.specs.declared.elements.Element.{Element}
 use Rattle.geo_sketch.specs.declared.changes.Delta.TheVariants.{Dragged}
 use Rattle.geo_sketch.specs.Assignments.{setting_of}
-use Rattle.geo_sketch.specs.Constructions.{by_def, computed, def_at}
+use Rattle.geo_sketch.specs.Constructions.{by_def}
+use Rattle.geo_sketch.specs.Lookups.{def_at, numbered}
 use Rattle.geo_sketch.specs.Dependence.{depends_algebra, depends_on}
-use Rattle.geo_sketch.specs.Sketches.{Drawing, IsDrawn, numbered, next_number}
-use Rattle.geo_sketch.specs.Tables.{place, IsLive}
+use Rattle.geo_sketch.specs.Sketches.{Drawing, IsDrawn, next_number}
+use Rattle.geo_sketch.specs.Tables.{place, Filled}
 use Rattle.geo_sketch.proofs.ChangeLaws.{taken_back_drawn}
-use Rattle.geo_sketch.proofs.ConstructionLaws.{at_named, by_def_same, computed_step}
-use Rattle.geo_sketch.proofs.HeightLaws.{construction}
-use Rattle.geo_sketch.proofs.NumberLaws.{def_numbered}
-use Rattle.geo_sketch.proofs.TableLaws.{built, place_before, place_within}
+use Rattle.geo_sketch.proofs.SketchLaws.{constructed}
+use Rattle.geo_sketch.proofs.TableLaws.{filled_more, place_within, value_here}
 use Rattle.geo_eval.specs.declared.evaluation.Reach.{Reach}
 use Rattle.geo_eval.specs.Reaches.{slot_at, kept_of, current_reach, AreKept}
 use Rattle.geo_eval.specs.Scenes.{IsSceneOf, Leads, before_of}
-use Rattle.geo_eval.proofs.ReachLaws.{same_place, kept_more}
+use Rattle.geo_eval.proofs.ReachLaws.{is_there, kept_more}
 use Rattle.geo_eval.proofs.SceneLaws.{same_reach}
 
 -- two sketches that differ in the values of one element
@@ -51,7 +49,7 @@ dragged_moved drawing n from to false drawn leads = record {
 -- how far a scene has followed: the elements at the first so many places are kept as
 -- after the drag, the others as before it
 pub record Following (before after : Drawing) (on : ℕ) (moved : List Bool) (slots : List (Option Reach)) (i : ℕ) : Type 0 where
-  pub known : (n : ℕ) (e : Element) → numbered after.elements n ≡ Some e → place after.elements n < i → slice_index_or moved n false ≡ depends_on after.elements n on
+  pub known : Filled (depends_algebra on) after.elements false moved i
   pub done : AreKept after slots i
   pub rest : (n : ℕ) (e : Element) → numbered after.elements n ≡ Some e → i ≤ place after.elements n → slot_at slots n ≡ kept_of before n
   pub none : (n : ℕ) → numbered after.elements n ≡ None → slot_at slots n ≡ None
@@ -80,38 +78,39 @@ module _ (before after : Drawing) (on : ℕ) (both : Moved before after on) wher
       by_found n None q = followed.none n q ∙ sym (ap (option_map (λ (x : Element). current_reach after n)) q)
       by_found n (Some e) q = followed.done n e q (omega (arith, all, place_within after.elements n e q))
 
-  module _ (moved : List Bool) (slots : List (Option Reach)) (i : ℕ) (x : Element) (found : numbered after.elements x.number ≡ Some x) (here : place after.elements x.number ≡ i) (followed : Following before after on moved slots i) where
-    -- whether the element at this place depends on the dragged one
-    pub moves_here : by_def (depends_algebra on) x.number x.def (λ k. slice_index_or moved k false) ≡ depends_on after.elements x.number on
-    moves_here =
-        let c = construction after.elements after.settings after.claims both.after_drawn in
-        let d : def_at after.elements x.number ≡ Some x.def = def_numbered after.elements x.number ∙ ap (option_map (λ (y : Element). y.def)) found in
-        by_def_same (depends_algebra on) x.number x.def (λ k. slice_index_or moved k false) (computed (depends_algebra on) after.elements)
-        (at_named (λ k. (k < x.number) × IsLive after.elements k) _ x.def (λ k p. followed.known k p.1.0 p.1.1 (omega (arith, here, place_before 0 after.elements k x.number p.1.0 x both.after_drawn.rising p.1.1 found p.0))) (c.named x.number x found))
-        ∙ sym (computed_step (depends_algebra on) after.elements both.after_drawn.rising (built after.elements c) x.number ∙ rw d refl)
+  module _ (moved : List Bool) (slots : List (Option Reach)) (i : ℕ) (x : Element) (within : i < length after.elements) (same : x ≡ get_or after.elements i x) (followed : Following before after on moved slots i) where
+    there : (numbered after.elements x.number ≡ Some x) × (place after.elements x.number ≡ i)
+    there = is_there after.elements i x both.after_drawn.rising within same
+
+    -- whether the element at this place depends on the dragged one, by what is known of those before it
+    abbrev pub by_those_before : Bool
+    by_those_before = by_def (depends_algebra on) x.number x.def (λ k. get_or moved (place after.elements k) false)
+
+    pub moves_here : by_those_before ≡ depends_on after.elements x.number on
+    moves_here = value_here (depends_algebra on) after.elements false moved i x.number x (constructed after both.after_drawn) followed.known there.0 (omega (arith, there.1))
+
+    known_more : (m : Bool) → m ≡ by_those_before → i < length moved → Filled (depends_algebra on) after.elements false (set moved i m) (i + 1)
+    known_more m is room =
+        let more = filled_more (depends_algebra on) after.elements false moved i x (constructed after both.after_drawn) within room followed.known in
+        rw (is, add-one) (rw (← same) at more)
 
     -- one more place, where what is kept of the other elements stays
-    more : (m : Bool) (new : List (Option Reach)) → m ≡ depends_on after.elements x.number on → x.number < length moved → length new ≡ length slots → ((n : ℕ) → n ≢ x.number → slot_at new n ≡ slot_at slots n) → slot_at new x.number ≡ Some (current_reach after x.number) → Following before after on (slice_set moved x.number m) new (i + 1)
-    more m new is room same others own =
-        let apart : (n : ℕ) (e : Element) → numbered after.elements n ≡ Some e → n ≢ x.number → place after.elements n ≢ i = λ n e q ne p. ne (same_place after.elements n x.number e x q found (p ∙ sym here)) in
+    more : (m : Bool) (new : List (Option Reach)) → m ≡ by_those_before → i < length moved → length new ≡ length slots → ((n : ℕ) → n ≢ x.number → slot_at new n ≡ slot_at slots n) → slot_at new x.number ≡ Some (current_reach after x.number) → Following before after on (set moved i m) new (i + 1)
+    more m new is room count others own =
         record {
-          known = λ n e q within. elim (cases_eq n x.number) [
-            | inl p ↦ (let P : ℕ → Type 0 = λ k. slice_index_or (slice_set moved x.number m) k false ≡ depends_on after.elements k on in
-                subst P (sym p) (get_or-set_same moved x.number m false room ∙ is))
-            | inr ne ↦ get_or-set_other moved x.number n m false ne ∙ followed.known n e q (omega (arith, within, apart n e q ne))
-          ];
-          done = kept_more after slots new i x found here own others followed.done;
-          rest = λ n e q past. others n (λ p. absurd (omega (arith, past, here, ap (place after.elements) p))) ∙ followed.rest n e q (omega (arith, past));
-          none = λ n q. others n (λ p. let some : numbered after.elements n ≡ Some x = ap (numbered after.elements) p ∙ found in cc) ∙ followed.none n q;
-          given = same ∙ followed.given;
+          known = known_more m is room;
+          done = kept_more after slots new i x there.0 there.1 own others followed.done;
+          rest = λ n e q past. others n (λ p. absurd (omega (arith, past, there.1, ap (place after.elements) p))) ∙ followed.rest n e q (omega (arith, past));
+          none = λ n q. others n (λ p. let some : numbered after.elements n ≡ Some x = ap (numbered after.elements) p ∙ there.0 in cc) ∙ followed.none n q;
+          given = count ∙ followed.given;
         }
 
-    pub follow_more : (m : Bool) → m ≡ by_def (depends_algebra on) x.number x.def (λ k. slice_index_or moved k false) → x.number < length moved → x.number < length slots → Following before after on (slice_set moved x.number m) (if m then slice_set slots x.number (Some (current_reach after x.number)) else slots) (i + 1)
-    follow_more true is room within =
-        more true (slice_set slots x.number (Some (current_reach after x.number))) (is ∙ moves_here) room (length-set slots x.number (Some (current_reach after x.number))) (λ n ne. get_or-set_other slots x.number n (Some (current_reach after x.number)) None ne) (get_or-set_same slots x.number (Some (current_reach after x.number)) None within)
-    follow_more false is room within =
-        more false slots (is ∙ moves_here) room refl (λ n ne. refl)
-        (followed.rest x.number x found (omega (arith, here)) ∙ stays x.number (sym (is ∙ moves_here)) ∙ ap (option_map (λ (y : Element). current_reach after x.number)) found)
+    pub follow_more : (m : Bool) → m ≡ by_those_before → i < length moved → x.number < length slots → Following before after on (set moved i m) (if m then set slots x.number (Some (current_reach after x.number)) else slots) (i + 1)
+    follow_more true is room inside =
+        more true (set slots x.number (Some (current_reach after x.number))) is room (length-set slots x.number (Some (current_reach after x.number))) (λ n ne. get_or-set_other slots x.number n (Some (current_reach after x.number)) None ne) (get_or-set_same slots x.number (Some (current_reach after x.number)) None inside)
+    follow_more false is room inside =
+        more false slots is room refl (λ n ne. refl)
+        (followed.rest x.number x there.0 (omega (arith, there.1)) ∙ stays x.number (sym (is ∙ moves_here)) ∙ ap (option_map (λ (y : Element). current_reach after x.number)) there.0)
 
 -- one more element is counted, or is not
 pub count_more : {X : Type 0} (p : X → Bool) (xs : List X) (i : ℕ) (d : X) (m : Bool) → i < length xs → m ≡ p (get_or xs i d) → count_by p (take (i + 1) xs) ≡ count_by p (take i xs) + (if m then 1 else 0)

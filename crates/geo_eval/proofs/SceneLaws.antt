@@ -1,5 +1,5 @@
 -- What a scene keeps as an element comes in, goes out or moves.
-use Rattle.std.proofs.Common.{◌≡◌, ◌≢◌, ◌∙◌, sym, ap, subst, refl, ℕ, ◌+◌, ◌*◌, ◌<◌, ◌≤◌, Bool, true, false, Option, None, Some, option_map, List, [], ◌∷◌, ◌++◌, length, get_or, take, map, nat_lt, ◌==◌, if◌then◌else◌, arith, inl, inr}
+use Rattle.std.proofs.Common.{◌≡◌, ◌≢◌, ◌∙◌, sym, ap, subst, refl, ℕ, ◌+◌, ◌<◌, ◌≤◌, Bool, true, false, Option, None, Some, option_map, List, [], ◌∷◌, ◌++◌, length, get_or, take, map, ◌==◌, arith, inl, inr}
 use Rattle.std.specs.Prelude.{slice_set, unsigned_abs}
 use Rattle.std.proofs.lemmas.Bool.{cond_both, cases_eq, cases_order, eqb-true}
 use Rattle.std.proofs.lemmas.List.{get_or-set_other, get_or_append_left, get_or-set_same, get_or_past, get_or_push, get_or-take, length-set, length-append, length-take}
@@ -10,41 +10,38 @@ use Rattle.geo_sketch.specs.declared.elements.Element.{Element}
 use Rattle.geo_sketch.specs.declared.statements.Statement.{Statement}
 use Rattle.geo_sketch.specs.declared.changes.Delta.{Delta}
 use Rattle.geo_sketch.specs.declared.changes.Delta.TheVariants.{Added, Dropped, Claimed, Dual}
-use Rattle.geo_sketch.specs.Assignments.{setting_of, first_value, second_value, current, magnitudes}
+use Rattle.geo_sketch.specs.Assignments.{first_parameter, second_parameter, setting_of, first_value, second_value, current, magnitudes}
 use Rattle.geo_sketch.specs.Changes.{exchanged, applied, taken_back, LeadsFrom, LeadsTo}
-use Rattle.geo_sketch.specs.Constructions.{def_at, AtNamed}
+use Rattle.geo_sketch.specs.Constructions.{AtNamed}
+use Rattle.geo_sketch.specs.Lookups.{def_at, numbered, IsLive}
 use Rattle.geo_sketch.specs.Dependence.{depends_on}
-use Rattle.geo_sketch.specs.Heights.{height_algebra, height_limit}
-use Rattle.geo_sketch.specs.Sketches.{Drawing, IsDrawn, numbered, next_number}
-use Rattle.geo_sketch.specs.Tables.{IsLive}
+use Rattle.geo_sketch.specs.Heights.{heights_algebra}
+use Rattle.geo_sketch.specs.Sketches.{Drawing, IsDrawn, next_number}
 use Rattle.geo_sketch.specs.Triples.{triple_algebra}
+use Rattle.geo_sketch.proofs.AssignmentLaws.{current_first, current_second}
 use Rattle.geo_sketch.proofs.ChangeLaws.{taken_back_drawn, taken_back_leads, applied_taken, taken_applied, leads_there}
 use Rattle.geo_sketch.proofs.ConstructionLaws.{at_named}
 use Rattle.geo_sketch.proofs.DualLaws.{numbered_exchanged, computed_exchanged}
-use Rattle.geo_sketch.proofs.HeightLaws.{construction}
-use Rattle.geo_sketch.proofs.NumberLaws.{def_numbered, others_same, last_found, gone, others_stay}
-use Rattle.geo_sketch.proofs.TableLaws.{built}
+use Rattle.geo_sketch.proofs.SketchLaws.{constructed, drawn_built}
+use Rattle.geo_sketch.proofs.NumberLaws.{others_same, last_found, gone, others_stay}
 use Rattle.geo_sketch.proofs.ValueLaws.{independent, computed_same, heights_agree, triples_agree}
-use Rattle.geo_triple.specs.Primitive.{primitive_of}
 use Rattle.geo_eval.specs.declared.evaluation.Reach.{Reach}
-use Rattle.geo_eval.specs.declared.here.Here.{Here}
-use Rattle.geo_eval.specs.declared.here.Here.TheVariants.{Far}
-use Rattle.geo_eval.specs.Reaches.{slot_at, kept, kept_of, current_reach}
+use Rattle.geo_eval.specs.Reaches.{slot_at, kept, kept_of, current_reach, here_by_reach}
 use Rattle.geo_eval.specs.Scenes.{IsSceneOf, here_at, here_in, Leads, before_of}
-use Rattle.geo_eval.specs.Shown.{current_height, current_triple, here_by, here_of, shown, shown_of}
-use Rattle.geo_eval.proofs.ReachLaws.{current_first, current_second, kept_stands, here_is}
+use Rattle.geo_eval.specs.Shown.{current_heights, current_triple, here_of, shown, shown_of}
+use Rattle.geo_eval.proofs.ReachLaws.{here_is}
 
 -- ---- two sketches
 module _ (one two : Drawing) (one_drawn : IsDrawn one) (two_drawn : IsDrawn two) where
   -- that agree on all that element n depends on keep the same of it
   pub same_reach : (n : ℕ) → ((on : ℕ) → depends_on one.elements n on ≡ true → (def_at one.elements on ≡ def_at two.elements on) × (setting_of one.settings on ≡ setting_of two.settings on)) → current_reach one n ≡ current_reach two n
   same_reach n agree =
-      let b = built one.elements (construction one.elements one.settings one.claims one_drawn) in
-      let d = built two.elements (construction two.elements two.settings two.claims two_drawn) in
-      let firsts : (on : ℕ) → setting_of one.settings on ≡ setting_of two.settings on → current one.settings (2 * on) ≡ current two.settings (2 * on) = λ on s. current_first one.settings on ∙ ap first_value s ∙ sym (current_first two.settings on) in
-      let seconds : (on : ℕ) → setting_of one.settings on ≡ setting_of two.settings on → current one.settings (2 * on + 1) ≡ current two.settings (2 * on + 1) = λ on s. current_second one.settings on ∙ ap second_value s ∙ sym (current_second two.settings on) in
-      let heights : current_height one n ≡ current_height two n =
-      computed_same one.elements one_drawn.rising b (height_algebra (magnitudes (current one.settings))) (height_algebra (magnitudes (current two.settings))) two.elements two_drawn.rising d n
+      let b = drawn_built one one_drawn in
+      let d = drawn_built two two_drawn in
+      let firsts : (on : ℕ) → setting_of one.settings on ≡ setting_of two.settings on → current one.settings (first_parameter on) ≡ current two.settings (first_parameter on) = λ on s. current_first one.settings on ∙ ap first_value s ∙ sym (current_first two.settings on) in
+      let seconds : (on : ℕ) → setting_of one.settings on ≡ setting_of two.settings on → current one.settings (second_parameter on) ≡ current two.settings (second_parameter on) = λ on s. current_second one.settings on ∙ ap second_value s ∙ sym (current_second two.settings on) in
+      let heights : current_heights one n ≡ current_heights two n =
+      computed_same one.elements one_drawn.rising b (heights_algebra (magnitudes (current one.settings))) (heights_algebra (magnitudes (current two.settings))) two.elements two_drawn.rising d n
       (λ on h. ((agree on h).0, heights_agree (magnitudes (current one.settings)) (magnitudes (current two.settings)) on (ap unsigned_abs (firsts on (agree on h).1)) (ap unsigned_abs (seconds on (agree on h).1)))) in
       let triples : current_triple one n ≡ current_triple two n =
       computed_same one.elements one_drawn.rising b (triple_algebra (current one.settings)) (triple_algebra (current two.settings)) two.elements two_drawn.rising d n
@@ -63,21 +60,21 @@ pub record Parted (large small : Drawing) (e : Element) : Type 0 where
 
 module _ (large small : Drawing) (e : Element) (parted : Parted large small e) where
   unnamed : (m : ℕ) (d : Def) → def_at small.elements m ≡ Some d → AtNamed d (λ k. k ≢ e.number)
-  unnamed m d h = by_found (numbered small.elements m) refl (sym (def_numbered small.elements m) ∙ h)
+  unnamed m d h = by_found (numbered small.elements m) refl h
     where
       by_found : (o : Option Element) → numbered small.elements m ≡ o → option_map (λ x. x.def) o ≡ Some d → AtNamed d (λ k. k ≢ e.number)
       by_found None q g = cc
       by_found (Some x) q g =
           let same : x.def ≡ d = cc in
-          let c = construction small.elements small.settings small.claims parted.small_drawn in
+          let c = constructed small parted.small_drawn in
           subst (λ (d : Def). AtNamed d (λ k. k ≢ e.number)) same
           (at_named (λ k. (k < m) × IsLive small.elements k) (λ k. k ≢ e.number) x.def (λ k live p. let none : numbered small.elements k ≡ None = rw p parted.none in let some = live.1.1 in cc) (c.named m x q))
 
   -- all other elements stay where they are
   others_kept : (n : ℕ) → n ≢ e.number → kept_of small n ≡ kept_of large n
   others_kept n ne =
-      let b = built small.elements (construction small.elements small.settings small.claims parted.small_drawn) in
-      let defs : (on : ℕ) → on ≢ e.number → def_at small.elements on ≡ def_at large.elements on = λ on o. def_numbered small.elements on ∙ ap (option_map (λ (x : Element). x.def)) (sym (parted.others on o)) ∙ sym (def_numbered large.elements on) in
+      let b = drawn_built small parted.small_drawn in
+      let defs : (on : ℕ) → on ≢ e.number → def_at small.elements on ≡ def_at large.elements on = λ on o. ap (option_map (λ (x : Element). x.def)) (sym (parted.others on o)) in
       let reach = same_reach small large parted.small_drawn parted.large_drawn n
       (λ on h. let o : on ≢ e.number = λ q. (let apart = independent small.elements parted.small_drawn.rising b e.number unnamed n ne in let dependent : depends_on small.elements n e.number ≡ true = rw (← q) h in cc) in (defs on o, sym (parted.settings on o))) in
       λ i. option_map (λ (x : Element). reach i) (sym (parted.others n ne) i)
@@ -102,7 +99,7 @@ module _ (large small : Drawing) (e : Element) (parted : Parted large small e) w
   -- so what the element names is kept before it comes in
   pub named_kept : (slots : List (Option Reach)) → ((n : ℕ) → slot_at slots n ≡ kept_of small n) → AtNamed e.def (λ k. slot_at slots k ≡ kept_of large k)
   named_kept slots each =
-      let c = construction large.elements large.settings large.claims parted.large_drawn in
+      let c = constructed large parted.large_drawn in
       at_named (λ k. (k < e.number) × IsLive large.elements k) (λ k. slot_at slots k ≡ kept_of large k) e.def (λ k p. each k ∙ others_kept k (λ q. absurd (omega (arith, q, p.0)))) (c.named e.number e parted.found)
 
 -- what is put behind a list leaves the other places, and so does taking it off
@@ -153,13 +150,10 @@ dropped_parted drawing e s drawn leads = record {
 }
 
 -- ---- what is read
-abbrev pub here_by_reach : Reach → Here
-here_by_reach r = if nat_lt height_limit r.height then Far else here_by (primitive_of r.triple)
-
 -- what is read from what is kept is where the element is
 read_kept : (drawing : Drawing) (n : ℕ) (o : Option Element) → option_map here_by_reach (option_map (λ e. current_reach drawing n) o) ≡ option_map (λ e. here_of drawing n) o
 read_kept drawing n None = refl
-read_kept drawing n (Some e) = ap Some (here_is (current_height drawing n) (current_triple drawing n) (current_reach drawing n) (kept_stands (current_height drawing n) (current_triple drawing n)))
+read_kept drawing n (Some e) = ap Some (here_is drawing n)
 
 in_shown : (drawing : Drawing) (es : List Element) (n : ℕ) → option_map (λ e. here_of drawing n) (numbered es n) ≡ here_in (map (shown drawing) es) n
 in_shown drawing [] n = refl
@@ -227,7 +221,7 @@ kept_dual drawing n = ap (option_map (λ (e : Element). current_reach (applied d
   where
     by_found : (o : Option Element) → option_map (λ e. current_reach (applied drawing Dual) n) (option_map exchanged o) ≡ option_map (λ e. current_reach drawing n) o
     by_found None = refl
-    by_found (Some e) = λ i. Some (kept (computed_exchanged (height_algebra (magnitudes (current drawing.settings))) drawing.elements n i) (computed_exchanged (triple_algebra (current drawing.settings)) drawing.elements n i))
+    by_found (Some e) = λ i. Some (kept (computed_exchanged (heights_algebra (magnitudes (current drawing.settings))) drawing.elements n i) (computed_exchanged (triple_algebra (current drawing.settings)) drawing.elements n i))
 
 pub still_dual : (drawing : Drawing) (forward : Bool) (slots : List (Option Reach)) → IsSceneOf slots (before_of drawing Dual forward) → IsSceneOf slots drawing
 still_dual drawing true slots scene = record { given = scene.given; each = λ n. scene.each n ∙ kept_dual drawing n }

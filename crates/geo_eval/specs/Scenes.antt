@@ -5,7 +5,8 @@ use Rattle.geo_sketch.specs.declared.changes.Delta.{Delta}
 use Rattle.geo_sketch.specs.declared.changes.Delta.TheVariants.{Added, Dropped, Dragged, Claimed, Dual}
 use Rattle.geo_sketch.specs.Changes.{applied, taken_back, LeadsFrom, LeadsTo}
 use Rattle.geo_sketch.specs.Dependence.{depends_on}
-use Rattle.geo_sketch.specs.Sketches.{Drawing, next_number, numbered}
+use Rattle.geo_sketch.specs.Sketches.{Drawing, next_number}
+use Rattle.geo_sketch.specs.Lookups.{numbered}
 use Rattle.geo_eval.specs.declared.evaluation.Reach.{Reach}
 use Rattle.geo_eval.specs.declared.here.Here.{Here}
 use Rattle.geo_eval.specs.Reaches.{slot_at, kept_of}

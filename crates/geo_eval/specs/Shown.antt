@@ -3,10 +3,12 @@
 use Rattle.std.specs.Prelude.{ℕ, nat_lt, if◌then◌else◌, Option, None, Some, List, map}
 use Rattle.geo_triple.specs.declared.Triple.{Triple}
 use Rattle.geo_triple.specs.Primitive.{primitive_of}
+use Rattle.geo_triple.specs.Sums.{Sizes}
 use Rattle.geo_sketch.specs.declared.elements.Kind.{Kind}
 use Rattle.geo_sketch.specs.declared.elements.Element.{Element}
 use Rattle.geo_sketch.specs.Assignments.{current, magnitudes}
-use Rattle.geo_sketch.specs.Heights.{height_of, height_limit}
+use Rattle.geo_sketch.specs.Heights.{heights_at, height_of}
+use Rattle.geo_sketch.specs.PlainHeights.{height_limit}
 use Rattle.geo_sketch.specs.Sketches.{Drawing}
 use Rattle.geo_sketch.specs.Triples.{triple_at}
 use Rattle.geo_eval.specs.declared.here.Here.{Here}
@@ -23,7 +25,11 @@ abbrev pub here_by : Option Triple → Here
 here_by None = NullHere
 here_by (Some u) = At u
 
--- the height of element n at the absolute values of the current parameters
+-- the heights of element n at the absolute values of the current parameters
+abbrev pub current_heights : Drawing → ℕ → Sizes
+current_heights drawing n = heights_at drawing.elements n (magnitudes (current drawing.settings))
+
+-- its height, the largest of them
 abbrev pub current_height : Drawing → ℕ → ℕ
 current_height drawing n = height_of drawing.elements n (magnitudes (current drawing.settings))
 

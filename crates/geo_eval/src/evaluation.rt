@@ -1,37 +1,30 @@
-//! The height and the triple of one element, from those of earlier ones.
+//! The heights and the triple of one element, from those of earlier ones.
 
-ghost use Rattle.std.specs.Prelude.{◌≡◌, ◌+◌, max, unsigned_abs, pos, All, Some, nat_lt, if◌then◌else◌};
-ghost use Rattle.geo_sketch.specs.Heights.{height_limit};
+ghost use Rattle.std.specs.Prelude.{◌≡◌, ◌+◌, max, unsigned_abs, pos, All, Some};
+ghost use Rattle.geo_triple.specs.Sums.{of_sizes, cross_sums};
 ghost use Rattle.geo_triple.specs.Triple.{blend_of, cross_of, cut_of};
-ghost use Rattle.geo_triple.specs.Primitive.{primitive_of};
-ghost use Rattle.geo_triple.specs.Height.{blend_height, cross_height, cut_height};
 ghost use Rattle.geo_sketch.specs.Assignments.{first_value, second_value};
-ghost use Rattle.geo_sketch.specs.Triples.{of_coordinates};
 ghost use Rattle.geo_sketch.specs.Constructions.{AtNamed};
-ghost use Rattle.geo_sketch.specs.Sketches.{IsDrawn, numbered};
-ghost use Rattle.geo_eval.specs.Reaches.{IsSized, IsSizedSlot, current_reach, kept, kept_of, reach_at, reach_by, slot_at, unreached};
-ghost use Rattle.geo_eval.specs.Shown.{here_by};
+ghost use Rattle.geo_sketch.specs.Heights.{blend_heights, cut_heights};
+ghost use Rattle.geo_sketch.specs.Lookups.{numbered};
+ghost use Rattle.geo_sketch.specs.Sketches.{IsDrawn};
+ghost use Rattle.geo_sketch.specs.Triples.{of_coordinates};
+ghost use Rattle.geo_eval.specs.Reaches.{IsSized, IsSizedSlot, current_reach, from_both, from_one, here_by_reach, kept, kept_of, reach_at, reach_by, slot_at};
 
 use crate::here::Here;
-use geo_sketch::{Def, Element, Setting, Sketch};
+use geo_height::Heights;
+use geo_sketch::{Def, Element, HEIGHT_LIMIT, Setting, Sketch};
 use geo_triple::{Steps, Triple, blend, cross, cut, primitive};
 use std::sync::ledger::Ledger;
 
-/// The greatest height of an element that is not far.
-const HEIGHT_LIMIT: u64 = 1 << 41;
-
-/// The height of an element at the current values, and its triple. Past the limit
-/// the height is just past it, and the triple is zero.
+/// What is kept of an element, at the current values.
 #[derive(Clone, Copy)]
-pub(crate) struct Reach {
-    pub(crate) height: u64,
-    pub(crate) triple: Triple,
+pub(crate) enum Reach {
+    /// One of its heights is greater than 2^126.
+    Past,
+    /// Its heights and its triple.
+    Within(Heights, Triple),
 }
-
-const UNREACHED: Reach = Reach {
-    height: HEIGHT_LIMIT + 1,
-    triple: Triple { a: 0, b: 0, c: 0 },
-};
 
 /// Evaluates an element of the sketch, where what it names is kept: the only way to
 /// an evaluation, which ticks once. The list is indexed by numbers.
@@ -61,9 +54,9 @@ fn reach_of(slots: &[Option<Reach>], def: &Def, setting: Setting) -> Reach
     match def {
         Def::Free => free(first(setting), second(setting)),
         Def::Fixed(a, b, c) => fixed(*a, *b, *c),
-        Def::Cut(k) => cut_reach(&look_up(slots, *k), first(setting)),
-        Def::Blend(k, m) => blend_reach(&look_up(slots, *k), &look_up(slots, *m), first(setting)),
-        Def::Cross(k, m) => cross_reach(&look_up(slots, *k), &look_up(slots, *m)),
+        Def::Cut(k) => cut_reach(look_up(slots, *k), first(setting)),
+        Def::Blend(k, m) => blend_reach(look_up(slots, *k), look_up(slots, *m), first(setting)),
+        Def::Cross(k, m) => cross_reach(look_up(slots, *k), look_up(slots, *m)),
     }
 }
 
@@ -74,7 +67,7 @@ fn look_up(slots: &[Option<Reach>], number: u32) -> Reach
 {
     match slots.get(number as usize) {
         Some(Some(reach)) => *reach,
-        _ => UNREACHED,
+        _ => Reach::Past,
     }
 }
 
@@ -98,17 +91,16 @@ fn second(setting: Setting) -> i64
 }
 
 fn free(x: i64, y: i64) -> Reach
-    ensures { result ≡ kept (max 1 (max (unsigned_abs x) (unsigned_abs y))) (of_coordinates x y (pos 1)) }
+    ensures { result ≡ kept (of_sizes (max 1 (unsigned_abs x)) (max 1 (unsigned_abs y)) 1) (of_coordinates x y (pos 1)) }
 {
-    let height = x.unsigned_abs().max(y.unsigned_abs()).max(1);
-    keep(height as u128, triple(x, y, 1))
+    let heights = Heights::of_free(x.unsigned_abs(), y.unsigned_abs());
+    Reach::Within(heights, triple(x, y, 1))
 }
 
 fn fixed(a: i64, b: i64, c: i64) -> Reach
-    ensures { result ≡ kept (max (unsigned_abs a) (max (unsigned_abs b) (unsigned_abs c))) (of_coordinates a b c) }
+    ensures { result ≡ kept (of_sizes (max 1 (unsigned_abs a)) (max 1 (unsigned_abs b)) (max 1 (unsigned_abs c))) (of_coordinates a b c) }
 {
-    let height = a.unsigned_abs().max(b.unsigned_abs().max(c.unsigned_abs()));
-    keep(height as u128, triple(a, b, c))
+    Reach::Within(Heights::of_fixed(a, b, c), triple(a, b, c))
 }
 
 fn triple(a: i64, b: i64, c: i64) -> Triple
@@ -121,74 +113,60 @@ fn triple(a: i64, b: i64, c: i64) -> Triple
     }
 }
 
-fn cut_reach(k: &Reach, by: i64) -> Reach
-    requires { IsSized k.now }
-    ensures { result ≡ kept (cut_height k.now.height (unsigned_abs by)) (cut_of k.now.triple by) }
+fn cut_reach(k: Reach, by: i64) -> Reach
+    requires { IsSized k }
+    ensures { result ≡ from_one k (λ g. cut_heights g (unsigned_abs by)) (λ s. cut_of s by) }
 {
-    let height = (1 + by.unsigned_abs() as u128) * k.height as u128;
-    if is_far(height) {
-        UNREACHED
-    } else {
-        keep(height, cut(&k.triple, by))
+    match k {
+        Reach::Past => Reach::Past,
+        Reach::Within(g, s) => match g.cut(by.unsigned_abs()) {
+            Some(heights) => Reach::Within(heights, cut(&s, by)),
+            None => Reach::Past,
+        },
     }
 }
 
-fn blend_reach(k: &Reach, m: &Reach, by: i64) -> Reach
-    requires first { IsSized k.now }
-    requires second { IsSized m.now }
-    ensures { result ≡ kept (blend_height k.now.height m.now.height (unsigned_abs by)) (blend_of k.now.triple m.now.triple by) }
+fn blend_reach(k: Reach, m: Reach, by: i64) -> Reach
+    requires first { IsSized k }
+    requires second { IsSized m }
+    ensures { result ≡ from_both k m (λ g h. blend_heights g h (unsigned_abs by)) (λ s t. blend_of s t by) }
 {
-    let weight = by.unsigned_abs().max(1) as u128;
-    let height = k.height as u128 + weight * m.height as u128;
-    if is_far(height) {
-        UNREACHED
-    } else {
-        keep(height, blend(&k.triple, &m.triple, by))
+    match (k, m) {
+        (Reach::Within(g, s), Reach::Within(h, t)) => match g.blend(&h, by.unsigned_abs()) {
+            Some(heights) => Reach::Within(heights, blend(&s, &t, by)),
+            None => Reach::Past,
+        },
+        _ => Reach::Past,
     }
 }
 
-fn cross_reach(k: &Reach, m: &Reach) -> Reach
-    requires first { IsSized k.now }
-    requires second { IsSized m.now }
-    ensures { result ≡ kept (cross_height k.now.height m.now.height) (cross_of k.now.triple m.now.triple) }
+fn cross_reach(k: Reach, m: Reach) -> Reach
+    requires first { IsSized k }
+    requires second { IsSized m }
+    ensures { result ≡ from_both k m cross_sums cross_of }
 {
-    let height = 2 * k.height as u128 * m.height as u128;
-    if is_far(height) {
-        UNREACHED
-    } else {
-        keep(height, cross(&k.triple, &m.triple))
-    }
-}
-
-fn is_far(height: u128) -> bool
-    ensures { result ≡ nat_lt height_limit height }
-{
-    height > HEIGHT_LIMIT as u128
-}
-
-fn keep(height: u128, triple: Triple) -> Reach
-    ensures { result ≡ kept height triple }
-{
-    if is_far(height) {
-        UNREACHED
-    } else {
-        Reach {
-            height: height as u64,
-            triple,
-        }
+    match (k, m) {
+        (Reach::Within(g, s), Reach::Within(h, t)) => match g.cross(&h) {
+            Some(heights) => Reach::Within(heights, cross(&s, &t)),
+            None => Reach::Past,
+        },
+        _ => Reach::Past,
     }
 }
 
 /// Where an element is, by what is kept of it.
 pub(crate) fn here_of_reach(reach: &Reach) -> Here
     requires { IsSized reach.now }
-    ensures { result ≡ (if nat_lt height_limit reach.now.height then Here.Far else here_by (primitive_of reach.now.triple)) }
+    ensures { result ≡ here_by_reach reach.now }
 {
-    if reach.height > HEIGHT_LIMIT {
+    let Reach::Within(heights, triple) = reach else {
+        return Here::Far;
+    };
+    if heights.largest() > HEIGHT_LIMIT {
         return Here::Far;
     }
-    match primitive(&reach.triple) {
-        Some(triple) => Here::At(triple),
+    match primitive(triple) {
+        Some(found) => Here::At(found),
         None => Here::NullHere,
     }
 }

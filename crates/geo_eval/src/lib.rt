@@ -4,11 +4,9 @@
 mod evaluation;
 mod here;
 mod scene;
-mod whole;
 
 pub use here::Here;
 pub use scene::Scene;
-pub use whole::evaluate;
 
 #[cfg(test)]
 mod tests;

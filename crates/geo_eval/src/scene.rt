@@ -4,21 +4,20 @@ ghost use Rattle.std.specs.Prelude.{◌≡◌, ◌+◌, ◌<◌, All, IsOk, OnEr
 ghost use Rattle.geo_sketch.specs.Changes.{LeadsFrom, LeadsTo, applied, taken_back};
 ghost use Rattle.geo_sketch.specs.Constructions.{AtNamed, by_def};
 ghost use Rattle.geo_sketch.specs.Dependence.{depends_algebra, depends_on};
-ghost use Rattle.geo_sketch.specs.Sketches.{Drawing, IsDrawn, blank, numbered};
+ghost use Rattle.geo_sketch.specs.Sketches.{Drawing, IsDrawn, blank};
+ghost use Rattle.geo_sketch.specs.Lookups.{numbered};
+ghost use Rattle.geo_sketch.specs.Tables.{place};
 ghost use Rattle.geo_eval.specs.Reaches.{IsSizedSlot, current_reach, kept_of, slot_at};
 ghost use Rattle.geo_eval.specs.Scenes.{IsSceneOf, Leads, before_of, dependents, evaluations, here_at, here_in, takes_memory};
 ghost use Rattle.geo_eval.specs.Shown.{shown_of};
 
 use crate::evaluation::{Reach, evaluate_element, here_of_reach};
 use crate::here::Here;
-use geo_sketch::{Def, Delta, Element, NoMemory, Setting, Sketch};
+use geo_sketch::{Def, Delta, ELEMENT_LIMIT, Element, NoMemory, Setting, Sketch, place_of};
 use geo_triple::Steps;
 use std::alloc::Global;
 use std::marker::Model;
 use std::sync::ledger::Ledger;
-
-/// Numbers are below it.
-pub(crate) const NUMBER_LIMIT: usize = 1000;
 
 /// Where each element of a sketch is. A scene is kept while its sketch changes, so
 /// that a change costs the evaluation of what it moves, and no more.
@@ -181,10 +180,11 @@ impl Scene {
         ensures after { IsSceneOf self.new sketch.now }
         ensures ticks { steps.new ≡ steps.old + dependents sketch.now number }
     {
-        let mut moved = [false; NUMBER_LIMIT];
-        for element in elements {
-            let moves = is_moved(&moved, element, number);
-            moved[element.number as usize] = moves;
+        let mut moved = [false; ELEMENT_LIMIT];
+        for i in 0..elements.len() {
+            let element = &elements[i];
+            let moves = is_moved(elements, &moved, element, number);
+            moved[i] = moves;
             self.renew(sketch, element, moves, steps);
         }
     }
@@ -212,24 +212,24 @@ impl Scene {
 }
 
 /// Whether an element is the dragged one or names an element that is moved, by what
-/// is known of those before it; the list is indexed by numbers.
-fn is_moved(moved: &[bool], element: &Element, dragged: u32) -> bool
-    ensures { result ≡ by_def (depends_algebra dragged) element.now.number element.now.def (λ k. slice_index_or moved.now k false) }
+/// is known of those before it; `moved` is indexed by places.
+fn is_moved(elements: &[Element], moved: &[bool], element: &Element, dragged: u32) -> bool
+    ensures { result ≡ by_def (depends_algebra dragged) element.now.number element.now.def (λ k. slice_index_or moved.now (place elements.now k) false) }
 {
     let is_it = element.number == dragged;
     match &element.def {
         Def::Free | Def::Fixed(_, _, _) => is_it,
-        Def::Cut(k) => is_it || moved_at(moved, *k),
+        Def::Cut(k) => is_it || moved_at(elements, moved, *k),
         Def::Blend(k, m) | Def::Cross(k, m) => {
-            is_it || moved_at(moved, *k) || moved_at(moved, *m)
+            is_it || moved_at(elements, moved, *k) || moved_at(elements, moved, *m)
         }
     }
 }
 
-fn moved_at(moved: &[bool], number: u32) -> bool
-    ensures { result ≡ slice_index_or moved.now number false }
+fn moved_at(elements: &[Element], moved: &[bool], number: u32) -> bool
+    ensures { result ≡ slice_index_or moved.now (place elements.now number) false }
 {
-    match moved.get(number as usize) {
+    match moved.get(place_of(elements, number)) {
         Some(moves) => *moves,
         None => false,
     }

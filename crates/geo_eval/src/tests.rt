@@ -112,20 +112,57 @@ impl<L: Ledger> Stage<L> {
         Ok(())
     }
 
+    fn here(&self, name: &str) -> Result<Here, Fail> {
+        let number = self.sketch.find(named(name)?).ok_or("no such element")?;
+        Ok(self.scene.get(number).ok_or("nothing here")?)
+    }
+
+    /// The coordinates of an element, where it has a place.
+    fn at(&self, name: &str) -> Result<Option<(i128, i128, i128)>, Fail> {
+        match self.here(name)? {
+            Here::At(t) => Ok(Some((t.a, t.b, t.c))),
+            Here::NullHere | Here::Far => Ok(None),
+        }
+    }
+
+    fn is_far(&self, name: &str) -> Result<bool, Fail> {
+        match self.here(name)? {
+            Here::Far => Ok(true),
+            Here::At(_) | Here::NullHere => Ok(false),
+        }
+    }
+
     /// The names of the elements that are elsewhere.
     fn elsewhere(&self, alloc: Global) -> Result<Vec<&'static str>, Fail> {
         let mut names = Vec::new(alloc);
         for (name, a, b, c) in PLACES {
-            let number = self.sketch.find(named(name)?).ok_or("no such element")?;
-            let is_there = match self.scene.get(number) {
-                Some(Here::At(t)) => t.a == a && t.b == b && t.c == c,
-                _ => false,
-            };
-            if !is_there {
+            if self.at(name)? != Some((a, b, c)) {
                 names.push(name)?;
             }
         }
         Ok(names)
+    }
+
+    fn one_is_far(&self) -> Result<bool, Fail> {
+        for (name, _, _, _) in PLACES {
+            if self.is_far(name)? {
+                return Ok(true);
+            }
+        }
+        Ok(false)
+    }
+}
+
+fn begin<L: Ledger>(alloc: Global, blank: Blank) -> Stage<L>
+    requires name { blank.name ≡ L.name }
+    requires parts { blank.parts ≡ L.parts }
+    requires some { 0 < blank.parts }
+    ensures { IsSceneOf result.scene result.sketch }
+{
+    Stage {
+        sketch: Sketch::new(alloc),
+        scene: Scene::new(alloc),
+        steps: Steps::<L>::new(blank),
     }
 }
 
@@ -135,11 +172,7 @@ fn construct<L: Ledger>(alloc: Global, blank: Blank) -> Result<Stage<L>, Fail>
     requires some { 0 < blank.parts }
     ensures { IfOk result (λ stage. IsSceneOf stage.scene stage.sketch) }
 {
-    let mut stage = Stage {
-        sketch: Sketch::new(alloc),
-        scene: Scene::new(alloc),
-        steps: Steps::<L>::new(blank),
-    };
+    let mut stage = begin::<L>(alloc, blank);
     stage.add("O", Kind::Point, &Spec::Fixed(0, 0, 1))?;
     for (name, x, y) in [("A", 1, 0), ("B", 0, 1), ("C", -1, -1)] {
         stage.add(name, Kind::Point, &Spec::Free(x, y))?;
@@ -183,5 +216,63 @@ fn drags_evaluate_what_depends_on_them(rt: HostRuntime) -> Result<(), Fail> {
     assert_eq!(rt; free, 8);
     assert_eq!(rt; blend, 5);
     assert!(rt; elsewhere.is_empty(), "elsewhere: {:?}", elsewhere);
+    Ok(())
+}
+
+/// Where two sides meet whose ends are dragged far out, and whether an element is far.
+fn drag_far_out<L: Ledger>(
+    alloc: Global,
+    blank: Blank,
+) -> Result<(Option<(i128, i128, i128)>, bool), Fail>
+    requires name { blank.name ≡ L.name }
+    requires parts { blank.parts ≡ L.parts }
+    requires some { 0 < blank.parts }
+{
+    let mut stage = construct::<L>(alloc, blank)?;
+    stage.drag("A", Setting::Two(1000, 1000))?;
+    stage.drag("B", Setting::Two(1000, -1000))?;
+    Ok((stage.at("X")?, stage.one_is_far()?))
+}
+
+/// Where joins of points that are far out meet, and whether the join of that with one of
+/// the points is far.
+fn meet_and_join<L: Ledger>(
+    alloc: Global,
+    blank: Blank,
+) -> Result<(Option<(i128, i128, i128)>, bool), Fail>
+    requires name { blank.name ≡ L.name }
+    requires parts { blank.parts ≡ L.parts }
+    requires some { 0 < blank.parts }
+{
+    let mut stage = begin::<L>(alloc, blank);
+    for (name, x, y) in [
+        ("A", 1000, 1000),
+        ("B", 1000, -1000),
+        ("C", -1000, 1000),
+        ("D", 999, 1000),
+    ] {
+        stage.add(name, Kind::Point, &Spec::Free(x, y))?;
+    }
+    for (name, kind, k, m) in [
+        ("l", Kind::Line, "A", "B"),
+        ("m", Kind::Line, "C", "D"),
+        ("X", Kind::Point, "l", "m"),
+        ("n", Kind::Line, "X", "C"),
+    ] {
+        stage.add(name, kind, &Spec::Cross(named(k)?, named(m)?))?;
+    }
+    Ok((stage.at("X")?, stage.is_far("n")?))
+}
+
+/// Large in one coordinate is not large in all: one height for all coordinates would have
+/// both meets far.
+#[test]
+fn far_by_the_heights_of_the_coordinates(rt: HostRuntime) -> Result<(), Fail> {
+    let (met, is_far) = drag_far_out::<Brand>(rt.alloc(), Blank::new(1))?;
+    assert!(rt; met == Some((1000, -3000, 1)));
+    assert!(rt; !is_far);
+    let (met, is_far) = meet_and_join::<Brand>(rt.alloc(), Blank::new(1))?;
+    assert!(rt; met == Some((1000, 1000, 1)));
+    assert!(rt; is_far);
     Ok(())
 }

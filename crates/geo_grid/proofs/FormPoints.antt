@@ -1,15 +1,13 @@
--- The values at the points of the grid of a form.
-use Rattle.std.proofs.Common.{◌≡◌, ℕ, ◌<◌, ◌≤◌, List, [], ◌∷◌, length, map, ℤ, unsigned_abs, arith}
-use Rattle.std.specs.List.{AllZip}
-use Rattle.std.proofs.lemmas.List.{length-map}
+-- The points of the grid of a form that is small enough, and the degrees of its axes.
+use Rattle.std.proofs.Common.{◌≡◌, subst, ℕ, ◌<◌, ◌≤◌, ◌^◌, List, [], ◌∷◌, length, map, ℤ, unsigned_abs, arith}
+use Rattle.std.specs.List.{All, AllZip}
+use Rattle.std.proofs.lemmas.List.{get_or-map, length-map}
 use Rattle.geo_height.specs.Capped.{statement_limit}
-use Rattle.geo_degree.specs.Grids.{grid_size}
-use Rattle.geo_degree.specs.Questions.{Question, IsForm, IsWithinLimits, blocks, grid_magnitudes, point}
-use Rattle.geo_degree.proofs.GridLaws.{length_point, point_bounded}
-
--- one for each axis
-pub one_value_per_axis : (q : Question) (i : ℕ) → i < grid_size (blocks q) → length (point q i) ≡ length q.axes
-one_value_per_axis q i l = length_point q.axes i l
+use Rattle.geo_degree.specs.declared.grids.Axis.{Axis}
+use Rattle.geo_degree.specs.Grids.{axis_magnitude, grid_size}
+use Rattle.geo_degree.specs.Questions.{Question, IsForm, IsWithinLimits, grid_magnitudes, grid_of, point, size_limit}
+use Rattle.geo_degree.proofs.QuestionLaws.{length_of_point, point_is_bounded}
+use Rattle.geo_grid.proofs.BlockSizes.{degrees_within}
 
 sizes_bounded : (xs : List ℤ) (ms : List ℕ) → AllZip (λ x m. unsigned_abs x ≤ m) xs ms → AllZip (λ m n. m ≤ n) (map unsigned_abs xs) ms
 sizes_bounded [] [] h = h
@@ -17,9 +15,21 @@ sizes_bounded [] (m ∷ ms) h = h
 sizes_bounded (x ∷ xs) [] h = h
 sizes_bounded (x ∷ xs) (m ∷ ms) h = (h.0, sizes_bounded xs ms h.1)
 
--- no higher than the magnitudes of the axes
-pub height_within : (q : Question) (i : ℕ) → IsForm q → IsWithinLimits q → i < grid_size (blocks q) → q.height_at (map unsigned_abs (point q i)) ≤ statement_limit
+-- the height at a point is no greater than at the magnitudes of the axes
+pub height_within : (q : Question) (i : ℕ) → IsForm q → IsWithinLimits q → i < grid_size (grid_of q) → q.height_at (map unsigned_abs (point q i)) ≤ statement_limit
 height_within q i f w l =
     let sizes = map unsigned_abs (point q i) in
-    let long : length (map unsigned_abs (point q i)) ≡ length q.axes = omega (arith, length-map (point q i) unsigned_abs, one_value_per_axis q i l) in
-    omega (arith, f.rises sizes (grid_magnitudes q) long (sizes_bounded (point q i) (grid_magnitudes q) (point_bounded q.axes i l)), w.height)
+    let long : length (map unsigned_abs (point q i)) ≡ length q.axes = omega (arith, length-map (point q i) unsigned_abs, length_of_point q f i l) in
+    omega (arith, f.rises sizes (grid_magnitudes q) long (sizes_bounded (point q i) (grid_magnitudes q) (point_is_bounded q f i l)), w.height)
+
+-- no degree is above the limit of the size
+pub small_degrees : (q : Question) → IsForm q → grid_size (grid_of q) ≤ size_limit → All (λ (a : Axis). a.degree ≤ size_limit) q.axes
+small_degrees q f small k a l =
+    let all = subst (All (λ d. d ≤ size_limit)) f.covered (degrees_within q.blocks size_limit small) in
+    omega (arith, all k 0 (omega (arith, l, length-map q.axes (λ (b : Axis). b.degree))), get_or-map (λ (b : Axis). b.degree) q.axes k a 0 l)
+
+pub low_magnitudes : (q : Question) → IsForm q → grid_size (grid_of q) ≤ size_limit → All (λ m. m ≤ 2 ^ 31) (grid_magnitudes q)
+low_magnitudes q f small k m l =
+    let none : Axis = record { param = 0; degree = 0 } in
+    let within : k < length q.axes = omega (arith, l, length-map q.axes axis_magnitude) in
+    omega (arith, get_or-map axis_magnitude q.axes k none m within, small_degrees q f small k none within)

@@ -1,15 +1,16 @@
 -- A pair for each axis, and the height of a statement at these.
-use Rattle.std.proofs.Common.{◌≡◌, ◌∙◌, ap, refl, ℕ, suc, ◌<◌, ◌≤◌, List, [], ◌∷◌, length, get_or, take, length-append, arith}
+use Rattle.std.proofs.Common.{◌≡◌, ◌∙◌, ap, refl, ℕ, suc, ◌<◌, ◌≤◌, Option, None, Some, List, [], ◌∷◌, length, get_or, take, length-append, arith}
 use Rattle.std.specs.Prelude.{◌==◌, if◌then◌else◌, nat_lt, sum_by}
-use Rattle.std.proofs.lemmas.Bool.{cond_both}
+use Rattle.std.proofs.lemmas.Bool.{cond_both, ltb-true}
 use Rattle.std.proofs.lemmas.List.Sums.{sum_by-cons}
 use Rattle.geo_sketch.specs.declared.elements.Def.{Def}
 use Rattle.geo_sketch.specs.declared.elements.Def.TheVariants.{Free, Fixed, Cut, Blend, Cross}
 use Rattle.geo_sketch.specs.declared.elements.Element.{Element}
 use Rattle.geo_sketch.specs.declared.statements.Statement.{Statement}
-use Rattle.geo_sketch.specs.Heights.{statement_height}
+use Rattle.geo_sketch.specs.Heights.{height_of, statement_height}
 use Rattle.geo_sketch.specs.Sketches.{element_parameters, parameter_count, parameter_limit, Drawing, IsDrawn}
 use Rattle.geo_height.specs.Bounds.{magnitude_of}
+use Rattle.geo_height.specs.Capped.{statement_limit, within_limit}
 use Rattle.geo_degree.specs.declared.grids.Axis.{Axis}
 use Rattle.geo_degree.specs.Degrees.{statement_degree}
 use Rattle.geo_degree.specs.Grids.{at_axes, axes_among, axes_of, axis, own_parameters, parameters_of}
@@ -52,9 +53,17 @@ parameters_count (e ∷ es) = length-append (own_parameters e.number e.def) (par
 pub few_axes : (drawing : Drawing) (s : Statement) → IsDrawn drawing → length (axes_of drawing.elements s) ≤ parameter_limit
 few_axes drawing s drawn = omega (arith, axes_few (statement_degree drawing.elements s) (parameters_of drawing.elements), parameters_count drawing.elements, drawn.parameters_room)
 
--- ---- the height at the pairs, by the value that contracts see
-pub height_paired : (p q : Drawing × Statement) (axes : List Axis) (ms : List ℕ) → p ≡ q → axes ≡ axes_of q.0.elements q.1 → statement_height p.0.elements p.1 (magnitude_of (paired axes ms)) ≡ statement_height_at q.0.elements q.1 ms
-height_paired p q axes ms same axes_are =
-    ap (λ (r : Drawing × Statement). statement_height r.0.elements r.1 (magnitude_of (paired axes ms))) same
-    ∙ ap (λ (kept : List Axis). statement_height q.0.elements q.1 (magnitude_of (paired kept ms))) axes_are
-    ∙ ap (statement_height q.0.elements q.1) (λ i n. magnitude_paired (axes_of q.0.elements q.1) ms n i)
+-- ---- the height at the pairs
+pub height_paired : (es : List Element) (s : Statement) (axes : List Axis) (ms : List ℕ) → axes ≡ axes_of es s → statement_height es s (magnitude_of (paired axes ms)) ≡ statement_height_at es s ms
+height_paired es s axes ms same =
+    ap (λ (kept : List Axis). statement_height es s (magnitude_of (paired kept ms))) same ∙ ap (statement_height es s) (λ i n. magnitude_paired (axes_of es s) ms n i)
+
+pub height_of_paired : (es : List Element) (n : ℕ) (axes : List Axis) (ms : List ℕ) → height_of es n (magnitude_of (paired axes ms)) ≡ height_of es n (at_axes 0 axes ms)
+height_of_paired es n axes ms = ap (height_of es n) (λ i p. magnitude_paired axes ms p i)
+
+-- ---- a height that is given as far as it is within the limit
+pub within_some : (h x : ℕ) → Some x ≡ within_limit h → x ≡ h
+within_some h x = cond_both (nat_lt statement_limit h) None (Some h) (λ o. Some x ≡ o → x ≡ h) (λ t e. cc) (λ t e. cc)
+
+pub within_none : (h : ℕ) → None ≡ within_limit h → statement_limit < h
+within_none h = cond_both (nat_lt statement_limit h) None (Some h) (λ (o : Option ℕ). None ≡ o → statement_limit < h) (λ t e. ltb-true statement_limit h t) (λ t e. cc)

@@ -1,24 +1,29 @@
 -- How the elements of an order are said by places, and what is asked of their triples.
-use Rattle.std.specs.Prelude.{◌≡◌, map, ℕ, suc, ◌+◌, ◌*◌, ◌<◌, ◌==◌, if◌then◌else◌, ℤ, List, [], ◌∷◌}
+use Rattle.std.specs.Prelude.{◌≡◌, map, ℕ, suc, ◌<◌, ◌≤◌, ◌==◌, max, if◌then◌else◌, Bool, true, ℤ, unsigned_abs, List, [], ◌∷◌, length, All}
 use Rattle.geo_triple.specs.declared.Triple.{Triple}
-use Rattle.geo_triple.specs.Height.{cross_height, determinant_height, dot_height}
-use Rattle.geo_triple.specs.Triple.{cross_of, determinant_of, dot_of, size_of}
+use Rattle.geo_triple.specs.Sums.{cross_sums, determinant_sum, dot_sum, largest_of, sizes_of}
+use Rattle.geo_triple.specs.Triple.{cross_of, determinant_of, dot_of}
 use Rattle.geo_sketch.specs.declared.elements.Def.{Def}
 use Rattle.geo_sketch.specs.declared.elements.Def.TheVariants.{Free, Fixed, Cut, Blend, Cross}
 use Rattle.geo_sketch.specs.declared.elements.Element.{Element}
 use Rattle.geo_sketch.specs.declared.statements.Statement.{Statement}
 use Rattle.geo_sketch.specs.declared.statements.Statement.TheVariants as statement
-use Rattle.geo_sketch.specs.Sketches.{Drawing, IsDrawn, IsPosed}
+use Rattle.geo_sketch.specs.Assignments.{first_parameter, second_parameter}
+use Rattle.geo_sketch.specs.Lookups.{IsLive}
+use Rattle.geo_sketch.specs.Sketches.{IsDrawn}
+use Rattle.geo_sketch.specs.Statements.{coordinates}
 use Rattle.geo_sketch.specs.Tables.{place}
-use Rattle.geo_sketch.specs.Triples.{coordinates, of_coordinates}
 use Rattle.geo_degree.specs.declared.grids.Axis.{Axis}
-use Rattle.geo_degree.specs.Grids.{axes_of}
-use Rattle.geo_grid.specs.declared.node.Node.{Node}
-use Rattle.geo_grid.specs.declared.node.Node.TheVariants as node
-use Rattle.geo_grid.specs.declared.condition.Condition.{Condition}
-use Rattle.geo_grid.specs.declared.condition.Condition.TheVariants as condition
-use Rattle.geo_grid.specs.Nodes.{triple_there}
+use Rattle.geo_degree.specs.Grids.{axis_magnitude}
+use Rattle.geo_degree.specs.Verdicts.{statement_height_at, statement_parts}
+use Rattle.geo_grid.specs.declared.posing.node.Node.{Node}
+use Rattle.geo_grid.specs.declared.posing.node.Node.TheVariants as node
+use Rattle.geo_grid.specs.declared.posing.condition.Condition.{Condition}
+use Rattle.geo_grid.specs.declared.posing.condition.Condition.TheVariants as condition
+use Rattle.geo_grid.specs.Nodes.{short_limit, size_there, triple_there}
 use Rattle.geo_grid.specs.Orders.{AreStarts, order_of}
+use Rattle.geo_grid.specs.Plans.{Planned}
+use Rattle.geo_grid.specs.Works.{AreLow}
 
 -- ---- elements
 -- the place of the axis that has this parameter, or how many axes there are
@@ -28,21 +33,22 @@ axis_place (a ∷ axes) p = if a.param == p then 0 else suc (axis_place axes p)
 
 -- element n with this definition, among the elements of an order
 abbrev pub node_by : List Axis → List Element → ℕ → Def → Node
-node_by axes es n Free = node.Free (axis_place axes (2 * n)) (axis_place axes (2 * n + 1))
-node_by axes es n (Fixed a b c) = node.Fixed (of_coordinates a b c)
-node_by axes es n (Cut k) = node.Cut (place es k) (axis_place axes (2 * n))
-node_by axes es n (Blend k m) = node.Blend (place es k) (place es m) (axis_place axes (2 * n))
+node_by axes es n Free = node.Free (axis_place axes (first_parameter n)) (axis_place axes (second_parameter n))
+node_by axes es n (Fixed a b c) = node.Fixed a b c
+node_by axes es n (Cut k) = node.Cut (place es k) (axis_place axes (first_parameter n))
+node_by axes es n (Blend k m) = node.Blend (place es k) (place es m) (axis_place axes (first_parameter n))
 node_by axes es n (Cross k m) = node.Cross (place es k) (place es m)
 
 abbrev pub node_of : List Axis → List Element → Element → Node
 node_of axes es e = node_by axes es e.number e.def
 
 -- ---- statements
-abbrev pub condition_of : List Element → Statement → Condition
-condition_of es (statement.Null n) = condition.Null (place es n)
-condition_of es (statement.Same n m) = condition.Same (place es n) (place es m)
-condition_of es (statement.On n m) = condition.On (place es n) (place es m)
-condition_of es (statement.Triple n m k) = condition.Triple (place es n) (place es m) (place es k)
+-- by the place of each element that it names
+abbrev pub condition_by : (ℕ → ℕ) → Statement → Condition
+condition_by at (statement.Null n) = condition.Null (at n)
+condition_by at (statement.Same n m) = condition.Same (at n) (at m)
+condition_by at (statement.On n m) = condition.On (at n) (at m)
+condition_by at (statement.Triple n m k) = condition.Triple (at n) (at m) (at k)
 
 -- what is to be 0
 abbrev pub condition_parts : Condition → List Triple → List ℤ
@@ -51,12 +57,14 @@ condition_parts (condition.Same n m) ts = coordinates (cross_of (triple_there ts
 condition_parts (condition.On n m) ts = dot_of (triple_there ts n) (triple_there ts m) ∷ []
 condition_parts (condition.Triple n m k) ts = determinant_of (triple_there ts n) (triple_there ts m) (triple_there ts k) ∷ []
 
--- how large its parts become, by the sizes of the triples
-abbrev pub condition_height : Condition → List Triple → ℕ
-condition_height (condition.Null n) ts = 0
-condition_height (condition.Same n m) ts = cross_height (size_of (triple_there ts n)) (size_of (triple_there ts m))
-condition_height (condition.On n m) ts = dot_height (size_of (triple_there ts n)) (size_of (triple_there ts m))
-condition_height (condition.Triple n m k) ts = determinant_height (size_of (triple_there ts n)) (size_of (triple_there ts m)) (size_of (triple_there ts k))
+-- the largest of the numbers from which its parts are made and of the sums on the way
+abbrev pub condition_size : Condition → List Triple → ℕ
+condition_size (condition.Null n) ts = 0
+condition_size (condition.Same n m) ts = max (max (size_there ts n) (size_there ts m)) (largest_of (cross_sums (sizes_of (triple_there ts n)) (sizes_of (triple_there ts m))))
+condition_size (condition.On n m) ts = max (max (size_there ts n) (size_there ts m)) (dot_sum (sizes_of (triple_there ts n)) (sizes_of (triple_there ts m)))
+condition_size (condition.Triple n m k) ts =
+    max (max (size_there ts n) (max (size_there ts m) (size_there ts k)))
+    (max (largest_of (cross_sums (sizes_of (triple_there ts m)) (sizes_of (triple_there ts k)))) (determinant_sum (sizes_of (triple_there ts n)) (sizes_of (triple_there ts m)) (sizes_of (triple_there ts k))))
 
 -- it speaks of the first so many triples
 abbrev pub SpeaksOf : Condition → ℕ → Type 0
@@ -65,11 +73,23 @@ SpeaksOf (condition.Same n m) count = (n < count) × (m < count)
 SpeaksOf (condition.On n m) count = (n < count) × (m < count)
 SpeaksOf (condition.Triple n m k) count = (n < count) × (m < count) × (k < count)
 
--- ---- what a plan keeps of a statement about a sketch
-pub record IsPlan (drawing : Drawing) (s : Statement) (axes : List Axis) (nodes : List Node) (starts : List ℕ) (condition : Condition) : Type 0 where
-  pub drawn : IsDrawn drawing
-  pub posed : IsPosed drawing.elements s
-  pub axes_are : axes ≡ axes_of drawing.elements s
-  pub nodes_are : nodes ≡ map (node_of (axes_of drawing.elements s) (order_of drawing.elements s)) (order_of drawing.elements s)
-  pub starts_are : AreStarts drawing.elements s (axes_of drawing.elements s) starts
-  pub condition_is : condition ≡ condition_of (order_of drawing.elements s) s
+-- it speaks of the triples, and asks of them what the statement asks at these values of its
+-- axes, where no number on the way is above the statement's height
+pub record Asks (es : List Element) (s : Statement) (condition : Condition) (ts : List Triple) (xs : List ℤ) : Type 0 where
+  pub inside : SpeaksOf condition (length ts)
+  pub low : condition_size condition ts ≤ statement_height_at es s (map unsigned_abs xs)
+  pub parts : condition_parts condition ts ≡ statement_parts es s xs
+
+-- ---- what a plan keeps
+pub record IsPlan (p : Planned) (order : List Element) (nodes : List Node) (starts : List ℕ) (short : Bool) : Type 0 where
+  pub drawn : IsDrawn p.drawing
+  pub live : All (IsLive p.drawing.elements) p.named
+  pub order_is : order ≡ order_of p
+  pub nodes_are : nodes ≡ map (node_of p.axes (order_of p)) (order_of p)
+  pub starts_are : AreStarts p.drawing.elements p.named p.axes starts
+  -- the lane of 64 bits is taken only where it suffices on the grid of the axes
+  pub short_is : short ≡ true → AreLow short_limit p (map axis_magnitude p.axes)
+
+-- the place of element n in the order of a plan
+abbrev pub place_in : Planned → ℕ → ℕ
+place_in p n = place (order_of p) n

@@ -6,5 +6,7 @@ pub mod Plans
 pub mod Nodes
 pub mod Orders
 pub mod Codes
+pub mod Ways
 pub mod Works
+pub mod Flags
 pub mod Pairs

@@ -1,7 +1,8 @@
 -- Lists of values of axes, compared place by place.
 use Rattle.std.specs.Prelude.{◌≡◌, ◌<◌, ℕ, suc, ℤ, pos, List, [], ◌∷◌, length, slice_index_or, if◌then◌else◌}
 use Rattle.std.specs.Ordering.{int_eq}
-use Rattle.geo_degree.specs.Grids.{Block, grid_point}
+use Rattle.geo_degree.specs.declared.grids.Block.{Block}
+use Rattle.geo_degree.specs.Blocks.{block_degrees}
 
 -- the lists agree at the places before the first so many
 abbrev pub AgreeBefore : ℕ → List ℤ → List ℤ → Type 0
@@ -13,6 +14,6 @@ first_change [] ys = 0
 first_change (x ∷ xs) [] = 0
 first_change (x ∷ xs) (y ∷ ys) = if int_eq x y then suc (first_change xs ys) else 0
 
--- for how many axes each point of a grid has a value
+-- how many axes some blocks cover: each point has a value for each of these
 abbrev pub axis_count : List Block → ℕ
-axis_count blocks = length (grid_point blocks 0)
+axis_count bs = length (block_degrees bs)

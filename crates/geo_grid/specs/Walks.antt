@@ -1,24 +1,26 @@
--- Where a walk over a grid stands, and its step from one point to the next.
-use Rattle.std.specs.Prelude.{◌≡◌, ◌<◌, ◌≤◌, ◌+◌, ℕ, ℤ, List, [], length, slice_index_or}
-use Rattle.geo_degree.specs.Grids.{Block, digits, grid_point, grid_size}
+-- Where a walk over a grid stands, and how far its digits turn.
+use Rattle.std.specs.Prelude.{◌≡◌, ◌<◌, ◌-◌, ℕ, ℤ, List, [], ◌∷◌}
+use Rattle.geo_degree.specs.declared.grids.Block.{Block}
+use Rattle.geo_degree.specs.declared.grids.Block.TheVariants.{One, Pair}
+use Rattle.geo_degree.specs.Blocks.{AreDigits, points_of_all, rank}
+use Rattle.geo_degree.specs.Grids.{grid_point, grid_size}
+use Rattle.geo_grid.specs.declared.search.wheels.Wheel.{Wheel}
+use Rattle.geo_grid.specs.declared.search.wheels.Wheel.TheVariants.{Whole, Rest}
 
 -- the digits and the values are those of point i
-pub record StandsAt (blocks : List Block) (i : ℕ) (ds : List ℕ) (xs : List ℤ) : Type 0 where
-  pub within : i < grid_size blocks
-  pub digits_there : ds ≡ digits blocks i
-  pub values_there : xs ≡ grid_point blocks i
+pub record StandsAt (bs : List Block) (i : ℕ) (ds : List ℕ) (xs : List ℤ) : Type 0 where
+  pub within : i < grid_size (points_of_all bs)
+  pub digits : AreDigits bs ds
+  pub rank_is : rank bs ds ≡ i
+  pub values_there : xs ≡ grid_point (points_of_all bs) i
 
--- digit k rises, and those behind it, which were at their last, begin again
-pub record IsNext (blocks : List Block) (ds es : List ℕ) (k : ℕ) : Type 0 where
-  pub inside : k < length blocks
-  pub before : (j : ℕ) → j < k → slice_index_or es j 0 ≡ slice_index_or ds j 0
-  pub here : slice_index_or es k 0 ≡ slice_index_or ds k 0 + 1
-  pub fits : slice_index_or es k 0 < length (slice_index_or blocks k [])
-  pub behind : (j : ℕ) → k < j → j < length blocks → slice_index_or es j 0 ≡ 0
-  pub full : (j : ℕ) → k < j → j < length blocks → slice_index_or ds j 0 + 1 ≡ length (slice_index_or blocks j [])
+-- one for each axis
+abbrev pub wheels_of : List Block → List Wheel
+wheels_of [] = []
+wheels_of (One d ∷ bs) = Whole d ∷ wheels_of bs
+wheels_of (Pair d ∷ bs) = Whole d ∷ Rest d ∷ wheels_of bs
 
--- the digits from place k on were at their last, and begin again
-pub record IsCarried (blocks : List Block) (ds es : List ℕ) (k : ℕ) : Type 0 where
-  pub before : (j : ℕ) → j < k → slice_index_or es j 0 ≡ slice_index_or ds j 0
-  pub behind : (j : ℕ) → k ≤ j → j < length blocks → slice_index_or es j 0 ≡ 0
-  pub full : (j : ℕ) → k ≤ j → j < length blocks → slice_index_or ds j 0 + 1 ≡ length (slice_index_or blocks j [])
+-- the last digit of a wheel, where the digit before it is given
+abbrev pub wheel_limit : Wheel → ℕ → ℕ
+wheel_limit (Whole d) before = d
+wheel_limit (Rest d) before = d - before

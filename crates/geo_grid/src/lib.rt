@@ -1,26 +1,12 @@
 //! Forms, which a search over a grid can settle; their grids; and cursors over these.
 #![tactic(auto)]
 
-mod axes;
-mod condition;
-mod cursor;
-mod digits;
-mod encoding;
-mod form;
-mod grid;
-mod lookups;
-mod magnitudes;
-mod node;
-mod order;
-mod place;
-mod plan;
-mod posed;
+mod posing;
+mod search;
 
-pub use cursor::Cursor;
-pub use form::{Form, Scratch};
-pub use geo_degree::Axis;
-pub use grid::{Grid, GridStop};
-pub use posed::Posed;
+pub use geo_degree::{Axis, Block};
+pub use posing::{Plan, Posed};
+pub use search::{Cursor, Form, Grid, GridStop, Scratch};
 
 #[cfg(test)]
 mod posed_tests;

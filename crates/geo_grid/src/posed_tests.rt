@@ -1,4 +1,4 @@
-//! Statements about Desargues' figure with a fixed centre.
+//! Statements about Desargues' figure with a fixed centre, and a plan for some of its elements.
 
 ghost use Rattle.std.specs.Prelude.{◌≡◌, ◌<◌, ◌≤◌, map, unsigned_abs, All, IfOk};
 ghost use Rattle.geo_sketch.specs.Additions.{IsSmallSpec};
@@ -24,9 +24,11 @@ fn add(sketch: &mut Sketch, name: &str, kind: Kind, spec: &Spec) -> Result<(), F
 
 /// A, B and C are free, D, E and F lie on their joins with the centre O, and X, Y and Z are
 /// the meets of the sides.
-fn desargues(alloc: Global) -> Result<Sketch, Fail> {
+fn desargues(alloc: Global, centre: &Spec) -> Result<Sketch, Fail>
+    requires { IsSmallSpec centre.now }
+{
     let mut sketch = Sketch::new(alloc);
-    add(&mut sketch, "O", Kind::Point, &Spec::Fixed(0, 0, 1))?;
+    add(&mut sketch, "O", Kind::Point, centre)?;
     for name in ["A", "B", "C"] {
         add(&mut sketch, name, Kind::Point, &Spec::Free(0, 0))?;
     }
@@ -54,7 +56,7 @@ fn desargues(alloc: Global) -> Result<Sketch, Fail> {
 /// others is moved by A, B, C, D, E or F.
 #[test]
 fn elements_that_an_axis_moves(rt: HostRuntime) -> Result<(), Fail> {
-    let sketch = desargues(rt.alloc())?;
+    let sketch = desargues(rt.alloc(), &Spec::Fixed(0, 0, 1))?;
     let said = Said::Collinear(named("X")?, named("Y")?, named("Z")?);
     let posed = Posed::new(rt.alloc(), &sketch, sketch.resolve(&said)?)?;
     for (first, count) in [
@@ -75,10 +77,11 @@ fn elements_that_an_axis_moves(rt: HostRuntime) -> Result<(), Fail> {
     Ok(())
 }
 
-/// Whether a part is not 0 at these values of the axes.
+/// Whether a part is not 0 at these values of the axes, after the work stood for others.
 fn fails_at<F: Form, L: Ledger>(
     alloc: Global,
     form: &F,
+    before: &[i64],
     values: &[i64],
     blank: Blank,
 ) -> Result<bool, Fail>
@@ -86,15 +89,18 @@ fn fails_at<F: Form, L: Ledger>(
     requires parts { blank.parts ≡ L.parts }
     requires some { 0 < blank.parts }
 {
+    let earlier = magnitudes_of(alloc, before)?;
     let magnitudes = magnitudes_of(alloc, values)?;
-    if magnitudes.len() != form.axes().len() {
+    let count = form.axes().len();
+    if earlier.len() != count || magnitudes.len() != count {
         return Err("not a value for each axis")?;
     }
-    if form.height(&magnitudes).is_none() {
+    if form.height(&earlier).is_none() || form.height(&magnitudes).is_none() {
         return Err("too high")?;
     }
     let mut steps = Steps::<L>::new(blank);
     let mut work = form.scratch(alloc)?;
+    form.refresh(before, 0, &mut work, &mut steps);
     form.refresh(values, 0, &mut work, &mut steps);
     Ok(form.failing(&work))
 }
@@ -117,7 +123,7 @@ fn magnitudes_of(alloc: Global, values: &[i64]) -> Result<Vec<u64>, Fail>
 /// everywhere.
 #[test]
 fn statements_at_values(rt: HostRuntime) -> Result<(), Fail> {
-    let sketch = desargues(rt.alloc())?;
+    let sketch = desargues(rt.alloc(), &Spec::Fixed(0, 0, 1))?;
     let all = Said::Collinear(named("X")?, named("Y")?, named("Z")?);
     let three = Said::Collinear(named("A")?, named("B")?, named("C")?);
     let on = Said::On(named("A")?, named("bc")?);
@@ -136,8 +142,37 @@ fn statements_at_values(rt: HostRuntime) -> Result<(), Fail> {
     ];
     for (said, values, fails) in rows {
         let posed = Posed::new(rt.alloc(), &sketch, sketch.resolve(&said)?)?;
-        let found = fails_at::<Posed, Brand>(rt.alloc(), &posed, values, Blank::new(1))?;
+        let found = fails_at::<Posed, Brand>(rt.alloc(), &posed, values, values, Blank::new(1))?;
         assert_eq!(rt; found, fails, "{said:?} at {values:?}");
+    }
+    Ok(())
+}
+
+/// Values on the grid are computed in 64 bits, and those beyond it are not: at a centre as far
+/// out as one may be, the elements fit 64 bits on the grid, and the first statement, which
+/// holds everywhere, does not.
+#[test]
+fn a_work_that_leaves_the_grid(rt: HostRuntime) -> Result<(), Fail> {
+    let sketch = desargues(rt.alloc(), &Spec::Fixed(1000, 1000, 1000))?;
+    let all = Said::Collinear(named("X")?, named("Y")?, named("Z")?);
+    let other = Said::Collinear(named("X")?, named("Y")?, named("A")?);
+    let near: &[i64] = &[1, 0, 0, 1, -1, -1, 1, -1, 1];
+    let far: &[i64] = &[50, 7, -3, 90, 11, -60, 70, 80, 90];
+    let flat: &[i64] = &[1, 0, 1, 0, -1, -1, 1, 0, 1];
+    let rows: [(Said, &[i64], &[i64], bool); 8] = [
+        (all, near, near, false),
+        (all, near, far, false),
+        (all, far, near, false),
+        (other, near, near, true),
+        (other, near, flat, false),
+        (other, near, far, true),
+        (other, far, near, true),
+        (other, far, flat, false),
+    ];
+    for (said, before, values, fails) in rows {
+        let posed = Posed::new(rt.alloc(), &sketch, sketch.resolve(&said)?)?;
+        let found = fails_at::<Posed, Brand>(rt.alloc(), &posed, before, values, Blank::new(1))?;
+        assert_eq!(rt; found, fails, "{said:?} at {values:?} after {before:?}");
     }
     Ok(())
 }

@@ -1,2 +1,3 @@
+pub mod SumLaws
 pub mod HeightLaws
-mod CappedLaws
+pub mod CappedLaws

@@ -1,9 +1,9 @@
-//! Sums and products of heights that are within the limit.
+//! Sums of products of heights, as far as they are within the limit.
 
-ghost use Rattle.std.specs.Prelude.{◌≡◌};
-ghost use Rattle.geo_height.specs.Capped.{within_limit, capped_sum, capped_product};
+ghost use Rattle.std.specs.Prelude.{◌≡◌, ◌+◌, ◌*◌};
+ghost use Rattle.geo_height.specs.Capped.{within_limit};
 
-/// The greatest height that is given: below it no 128 bit operation overflows.
+/// The greatest height that is given: up to it no 128 bit operation overflows.
 const STATEMENT_LIMIT: u128 = 1 << 126;
 
 /// The height, or None where it is above the limit.
@@ -17,26 +17,20 @@ pub(crate) fn keep(height: u128) -> Option<u128>
     }
 }
 
-pub(crate) fn plus(g: Option<u128>, h: Option<u128>) -> Option<u128>
-    ensures { result ≡ capped_sum g h }
+pub(crate) fn plus_product(x: u128, p: u128, q: u128) -> Option<u128>
+    ensures { result ≡ within_limit (x + p * q) }
 {
-    match (g, h) {
-        (Some(g), Some(h)) => match g.checked_add(h) {
-            Some(sum) => keep(sum),
-            None => None,
-        },
-        _ => None,
-    }
+    keep(x.checked_add(p.checked_mul(q)?)?)
 }
 
-pub(crate) fn times(g: Option<u128>, h: Option<u128>) -> Option<u128>
-    ensures { result ≡ capped_product g h }
+pub(crate) fn sum_of_two(p: u128, q: u128, r: u128, s: u128) -> Option<u128>
+    ensures { result ≡ within_limit (p * q + r * s) }
 {
-    match (g, h) {
-        (Some(g), Some(h)) => match g.checked_mul(h) {
-            Some(product) => keep(product),
-            None => None,
-        },
-        _ => None,
-    }
+    plus_product(p.checked_mul(q)?, r, s)
+}
+
+pub(crate) fn sum_of_three(p: u128, q: u128, r: u128, s: u128, u: u128, v: u128) -> Option<u128>
+    ensures { result ≡ within_limit (p * q + r * s + u * v) }
+{
+    plus_product(sum_of_two(p, q, r, s)?, u, v)
 }

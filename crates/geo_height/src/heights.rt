@@ -1,126 +1,110 @@
-//! The heights of elements and statements, without memory.
+//! The heights of an element, one for each coordinate, from those of the elements that it
+//! is made of.
 
-ghost use Rattle.std.specs.Prelude.{◌≡◌, length, None, max, unsigned_abs, slice_index_or};
-ghost use Rattle.geo_sketch.specs.Constructions.{by_def};
-ghost use Rattle.geo_sketch.specs.Heights.{height_of, statement_height};
-ghost use Rattle.geo_sketch.specs.Tables.{place, Filled, IsLive};
-ghost use Rattle.geo_height.specs.Bounds.{magnitude_of, AtStated};
-ghost use Rattle.geo_height.specs.Capped.{within_limit, capped_algebra, capped_statement};
+ghost use Rattle.std.specs.Prelude.{◌≡◌, ◌+◌, ◌*◌, max, unsigned_abs};
+ghost use Rattle.geo_triple.specs.Sums.{Sizes, of_sizes, largest_of, cross_sums, dot_sum};
+ghost use Rattle.geo_sketch.specs.Heights.{blend_heights, cut_heights};
+ghost use Rattle.geo_height.specs.Capped.{heights_within, sizes_in, within_limit};
 
-use crate::capped::{keep, plus, times};
-use geo_sketch::{Def, Element, Sketch, Statement, place_of};
+use crate::capped::{keep, plus_product, sum_of_three, sum_of_two};
 
-/// How many elements a sketch may hold.
-const ELEMENT_LIMIT: usize = 40;
-
-/// The height of a live element at these magnitudes, each of a parameter; one
-/// that is not listed has magnitude 0. None where the height is greater than 2^126.
-pub fn height(sketch: &Sketch, n: u32, magnitudes: &[(u32, u64)]) -> Option<u128>
-    requires { IsLive sketch.now.elements n }
-    ensures { result ≡ within_limit (height_of sketch.now.elements n (magnitude_of magnitudes.now)) }
-{
-    height_at(sketch.elements(), &heights_of(sketch, magnitudes), n)
+/// A bound of the absolute value of each coordinate of an element's triple.
+#[derive(Clone, Copy, Debug, PartialEq, Eq)]
+pub struct Heights {
+    pub a: u128,
+    pub b: u128,
+    pub c: u128,
 }
 
-/// The height of a statement about live elements, in the same way.
-pub fn of_statement(sketch: &Sketch, s: &Statement, magnitudes: &[(u32, u64)]) -> Option<u128>
-    requires { AtStated s.now (IsLive sketch.now.elements) }
-    ensures { result ≡ within_limit (statement_height sketch.now.elements s.now (magnitude_of magnitudes.now)) }
-{
-    statement_by(sketch.elements(), &heights_of(sketch, magnitudes), s)
-}
-
-/// The heights of all elements, by their places.
-fn heights_of(sketch: &Sketch, magnitudes: &[(u32, u64)]) -> [Option<u128>; ELEMENT_LIMIT]
-    ensures { Filled (capped_algebra (magnitude_of magnitudes.now)) sketch.now.elements None result (length sketch.now.elements) }
-{
-    let elements = sketch.elements();
-    let mut heights = [None; ELEMENT_LIMIT];
-    for i in 0..elements.len() {
-        heights[i] = height_by(elements, &heights, &elements[i], magnitudes);
-    }
-    heights
-}
-
-/// The height of an element, from those of earlier ones.
-fn height_by(
-    elements: &[Element],
-    heights: &[Option<u128>],
-    element: &Element,
-    magnitudes: &[(u32, u64)],
-) -> Option<u128>
-    ensures { result ≡ by_def (capped_algebra (magnitude_of magnitudes.now)) element.now.number element.now.def (λ k. slice_index_or heights.now (place elements.now k) None) }
-{
-    let first = 2 * u64::from(element.number);
-    match &element.def {
-        Def::Free => {
-            let larger = magnitude(magnitudes, first).max(magnitude(magnitudes, first + 1));
-            keep(u128::from(larger.max(1)))
-        }
-        Def::Fixed(a, b, c) => keep(largest(*a, *b, *c)),
-        Def::Cut(k) => times(
-            keep(1 + u128::from(magnitude(magnitudes, first))),
-            height_at(elements, heights, *k),
-        ),
-        Def::Blend(k, m) => {
-            let weight = magnitude(magnitudes, first).max(1);
-            let added = times(keep(u128::from(weight)), height_at(elements, heights, *m));
-            plus(height_at(elements, heights, *k), added)
-        }
-        Def::Cross(k, m) => times(
-            times(keep(2), height_at(elements, heights, *k)),
-            height_at(elements, heights, *m),
-        ),
-    }
-}
-
-fn statement_by(elements: &[Element], heights: &[Option<u128>], s: &Statement) -> Option<u128>
-    ensures { result ≡ capped_statement s.now (λ k. slice_index_or heights.now (place elements.now k) None) }
-{
-    match s {
-        Statement::Null(n) => height_at(elements, heights, *n),
-        Statement::Same(n, m) => times(
-            times(keep(2), height_at(elements, heights, *n)),
-            height_at(elements, heights, *m),
-        ),
-        Statement::On(n, m) => times(
-            times(keep(3), height_at(elements, heights, *n)),
-            height_at(elements, heights, *m),
-        ),
-        Statement::Triple(n, m, k) => times(
-            times(
-                times(keep(6), height_at(elements, heights, *n)),
-                height_at(elements, heights, *m),
-            ),
-            height_at(elements, heights, *k),
-        ),
-    }
-}
-
-/// The height of the element with this number, as far as the table has it.
-fn height_at(elements: &[Element], heights: &[Option<u128>], number: u32) -> Option<u128>
-    ensures { result ≡ slice_index_or heights.now (place elements.now number) None }
-{
-    match heights.get(place_of(elements, number)) {
-        Some(height) => *height,
-        None => None,
-    }
-}
-
-/// The magnitude of a parameter.
-fn magnitude(magnitudes: &[(u32, u64)], parameter: u64) -> u64
-    ensures { result ≡ magnitude_of magnitudes.now parameter }
-{
-    for (p, m) in magnitudes {
-        if u64::from(*p) == parameter {
-            return *m;
+impl Heights {
+    /// Of a free element, at the magnitudes of its two parameters.
+    pub fn of_free(first: u64, second: u64) -> Heights
+        ensures { heights_within (of_sizes (max 1 first) (max 1 second) 1) ≡ Some result }
+    {
+        Heights {
+            a: u128::from(first.max(1)),
+            b: u128::from(second.max(1)),
+            c: 1,
         }
     }
-    0
+
+    /// Of an element with these coordinates.
+    pub fn of_fixed(a: i64, b: i64, c: i64) -> Heights
+        ensures { heights_within (of_sizes (max 1 (unsigned_abs a)) (max 1 (unsigned_abs b)) (max 1 (unsigned_abs c))) ≡ Some result }
+    {
+        Heights {
+            a: u128::from(a.unsigned_abs().max(1)),
+            b: u128::from(b.unsigned_abs().max(1)),
+            c: u128::from(c.unsigned_abs().max(1)),
+        }
+    }
+
+    /// Of a cut, at the magnitude of its parameter. Here and below None where one of them
+    /// is greater than 2^126.
+    pub fn cut(&self, by: u64) -> Option<Heights>
+        ensures { result ≡ heights_within (cut_heights (sizes_in self.now) by) }
+    {
+        let by = u128::from(by);
+        all_of(
+            plus_product(0, by.max(1), self.b),
+            self.second_of_cut(by),
+            keep(self.b),
+        )
+    }
+
+    fn second_of_cut(&self, by: u128) -> Option<u128>
+        ensures { result ≡ within_limit (max self.now.a (self.now.c + by * self.now.a)) }
+    {
+        keep(plus_product(self.c, by, self.a)?.max(self.a))
+    }
+
+    /// Of a blend of this one and another, at the magnitude of its parameter.
+    pub fn blend(&self, other: &Heights, by: u64) -> Option<Heights>
+        ensures { result ≡ heights_within (blend_heights (sizes_in self.now) (sizes_in other.now) by) }
+    {
+        let weight = u128::from(by.max(1));
+        all_of(
+            plus_product(self.a, weight, other.a),
+            plus_product(self.b, weight, other.b),
+            plus_product(self.c, weight, other.c),
+        )
+    }
+
+    /// Of the cross product of this one and another.
+    pub fn cross(&self, other: &Heights) -> Option<Heights>
+        ensures { result ≡ heights_within (cross_sums (sizes_in self.now) (sizes_in other.now)) }
+    {
+        all_of(
+            sum_of_two(self.b, other.c, self.c, other.b),
+            sum_of_two(self.c, other.a, self.a, other.c),
+            sum_of_two(self.a, other.b, self.b, other.a),
+        )
+    }
+
+    /// A bound of the dot product of this one and another.
+    #[tactic(auto, unfolding(geo_triple::specs::Sums::dot_sum))]
+    pub fn dot(&self, other: &Heights) -> Option<u128>
+        ensures { result ≡ within_limit (dot_sum (sizes_in self.now) (sizes_in other.now)) }
+    {
+        sum_of_three(self.a, other.a, self.b, other.b, self.c, other.c)
+    }
+
+    /// The height of the element.
+    #[tactic(auto, unfolding(geo_triple::specs::Sums::largest_of))]
+    pub fn largest(&self) -> u128
+        ensures { result ≡ largest_of (sizes_in self.now) }
+    {
+        self.a.max(self.b.max(self.c))
+    }
 }
 
-fn largest(a: i64, b: i64, c: i64) -> u128
-    ensures { result ≡ max (unsigned_abs a) (max (unsigned_abs b) (unsigned_abs c)) }
+/// All three, or None where one is above the limit.
+fn all_of(a: Option<u128>, b: Option<u128>, c: Option<u128>) -> Option<Heights>
+    ensures { (g : Sizes) → a ≡ within_limit g.a → b ≡ within_limit g.b → c ≡ within_limit g.c → result ≡ heights_within g }
 {
-    u128::from(a.unsigned_abs().max(b.unsigned_abs().max(c.unsigned_abs())))
+    Some(Heights {
+        a: a?,
+        b: b?,
+        c: c?,
+    })
 }

@@ -1,6 +1,6 @@
 ghost use Rattle.geo_sketch.specs.Additions.{IsSmallSpec};
 
-use crate::{height, of_statement};
+use crate::{height, heights_of, of_statement};
 use geo_sketch::{Delta, Kind, Name, Refusal, Sketch, Spec, Statement, Stop};
 use std::alloc::Global;
 
@@ -87,11 +87,18 @@ fn large(alloc: Global) -> Result<Sketch, Stop> {
     Ok(sketch)
 }
 
-/// The height of the element at a place.
-fn at_place(sketch: &Sketch, place: usize, magnitudes: &[(u32, u64)]) -> Option<u128> {
+/// The heights of the element at a place, and the largest.
+fn at_place(
+    sketch: &Sketch,
+    place: usize,
+    magnitudes: &[(u32, u64)],
+) -> Option<(u128, u128, u128, u128)> {
     let elements = sketch.elements();
     if place < elements.len() {
-        height(sketch, elements[place].number, magnitudes)
+        let number = elements[place].number;
+        let heights = heights_of(sketch, number, magnitudes)?;
+        let largest = height(sketch, number, magnitudes)?;
+        Some((heights.a, heights.b, heights.c, largest))
     } else {
         None
     }
@@ -118,7 +125,7 @@ fn at_places(
 }
 
 /// The intersections of Desargues' figure, where its coordinates have magnitude 2
-/// and its ratios magnitude 1.
+/// and its ratios magnitude 1; and the first of them, where A and B are far out.
 #[test]
 fn heights_of_desargues_figure(rt: HostRuntime) {
     let magnitudes = [
@@ -132,29 +139,51 @@ fn heights_of_desargues_figure(rt: HostRuntime) {
         (10, 1),
         (12, 1),
     ];
+    let far_out = [
+        (2, 1000),
+        (3, 1000),
+        (4, 1000),
+        (5, 1000),
+        (6, 1),
+        (7, 1),
+        (8, 1),
+        (10, 2),
+        (12, 3),
+    ];
     match desargues(rt.alloc()) {
         Ok(sketch) => {
             for place in [9, 12, 15] {
                 assert!(rt;
-                    at_place(&sketch, place, &magnitudes) == Some(288),
+                    at_place(&sketch, place, &magnitudes) == Some((168, 168, 96, 168)),
                     "at {place}"
                 );
             }
-            assert!(rt; at_places(&sketch, (9, 12, 15), &magnitudes) == Some(143_327_232));
+            assert!(rt; at_places(&sketch, (9, 12, 15), &magnitudes) == Some(16_257_024));
+            assert!(rt;
+                at_place(&sketch, 9, &far_out)
+                    == Some((22_022_004_000, 22_022_004_000, 28_020_000, 22_022_004_000))
+            );
         }
         Err(_) => assert!(rt; false, "the figure"),
     }
 }
 
 /// The statement of the large figure is within the limit at magnitude 3, and above
-/// it at magnitude 5.
+/// it at magnitude 5. A parameter that is not listed has magnitude 0.
 #[test]
 fn heights_of_a_large_figure(rt: HostRuntime) {
     match large(rt.alloc()) {
         Ok(sketch) => {
-            assert!(rt; at_place(&sketch, 15, &[(4, 3)]) == Some(2_097_152_000_000));
-            assert!(rt; at_place(&sketch, 15, &[(4, 5)]) == Some(7_077_888_000_000));
-            assert!(rt; at_place(&sketch, 15, &[(5, 3)]) == Some(262_144_000_000));
+            for (magnitudes, all) in [
+                ([(4, 3)], 2_097_152_000_000),
+                ([(4, 5)], 7_077_888_000_000),
+                ([(5, 3)], 262_144_000_000),
+            ] {
+                assert!(rt;
+                    at_place(&sketch, 15, &magnitudes) == Some((all, all, all, all)),
+                    "{all}"
+                );
+            }
             assert!(rt; at_places(&sketch, (15, 16, 17), &[(4, 3)]).is_some());
             assert!(rt; at_places(&sketch, (15, 16, 17), &[(4, 5)]).is_none());
         }

@@ -1,6 +1,5 @@
 pub mod Faults
 pub mod Pieces
-pub mod Fronts
 pub mod Lines
 pub mod Memory
 pub mod OverStd

@@ -1,12 +1,14 @@
 -- How the laws are used at the small quantities of src/examples.rt.
-use Rattle.std.proofs.Common.{◌≡◌, ℕ, zero, suc, ◌+◌, ◌<◌, ◌≤◌, false, List, [], ◌∷◌, length, get_or, ℤ, pos, arith, refl, sym, subst, ap₂, ◌∙◌}
+use Rattle.std.proofs.Common.{◌≡◌, ◌≢◌, ℕ, zero, suc, ◌+◌, ◌<◌, ◌≤◌, false, List, [], ◌∷◌, length, get_or, ℤ, pos, arith, refl, sym, subst, ap₂, ◌∙◌}
 use Rattle.std.proofs.lemmas.List.Elements.{All-cons, All-nil}
 use Rattle.std.proofs.lemmas.List.{get_or_default}
+use Rattle.std.proofs.lemmas.List.Kept.{AllPairs-cons}
+use Rattle.std.proofs.lemmas.Int.{ints}
 use Rattle.geo_law.specs.Coefficients.{AreDistinct}
 use Rattle.geo_law.specs.Tables.{IsTriangle}
 use Rattle.geo_law.specs.Grids.{HasEnoughValues, IsZeroOnGrid}
 use Rattle.geo_law.specs.Triangles.{stands_in, HasEnoughForTriangles, IsZeroOnTriangles}
-use Rattle.geo_law.specs.Examples.{bilinear_value, bilinear_coefficients, bilinear_table, point}
+use Rattle.geo_law.specs.Examples.{bilinear_value, bilinear_coefficients, bilinear_table, multiple_value, point}
 use Rattle.geo_law.specs.declared.examples.Bilinear.{Bilinear}
 use Rattle.geo_law.specs.ExampleLaws.{only}
 
@@ -46,3 +48,21 @@ module _ (q : Bilinear) (xs ys : List ℤ) (dx : AreDistinct xs) (dy : AreDistin
   triangle_points lx z zs on =
       let p = on.in_pairs.0 in
       ap₂ (λ x y. bilinear_value q (x ∷ y ∷ [])) p.3 p.4 ∙ z p.0 p.1 (omega (arith, p.2))
+
+-- ---- a multiple, at 0 and at one other value
+two_values : (r : ℤ) → r ≢ pos 0 → AreDistinct (pos 0 ∷ r ∷ [])
+two_values r n = AllPairs-cons (λ x y. x ≢ y) (pos 0) (r ∷ []) (All-cons (λ y. pos 0 ≢ y) r [] (λ e. n (sym e)) (All-nil (λ y. pos 0 ≢ y))) (AllPairs-cons (λ x y. x ≢ y) r [] (All-nil (λ y. r ≢ y)) (λ i j d l m. absurd (omega arith)))
+
+two_enough : (a r : ℤ) (zs : List ℤ) (place : ℕ) → length zs ≡ 1 → place < 1 → length (pos 0 ∷ a ∷ []) ≤ length (get_or ((pos 0 ∷ r ∷ []) ∷ []) place [])
+two_enough a r zs zero l m = omega arith
+two_enough a r zs (suc place) l m = absurd (omega arith)
+
+pub one_other : (a r : ℤ) → r ≢ pos 0 → HasEnoughValues 1 (λ zs place. pos 0 ∷ a ∷ []) ((pos 0 ∷ r ∷ []) ∷ [])
+one_other a r n = record { one_list_each = refl; distinct = All-cons AreDistinct (pos 0 ∷ r ∷ []) [] (two_values r n) (All-nil AreDistinct); enough = two_enough a r }
+
+pub one_other_point : (a r : ℤ) → multiple_value a (r ∷ []) ≡ pos 0 → IsZeroOnGrid (multiple_value a) ((pos 0 ∷ r ∷ []) ∷ [])
+one_other_point a r z [] t = absurd t
+one_other_point a r z (x ∷ []) ((zero, l, e), t) = subst (λ x. multiple_value a (x ∷ []) ≡ pos 0) e (omega (arith, ints))
+one_other_point a r z (x ∷ []) ((suc zero, l, e), t) = subst (λ x. multiple_value a (x ∷ []) ≡ pos 0) e z
+one_other_point a r z (x ∷ []) ((suc (suc k), l, e), t) = absurd (omega (arith, l))
+one_other_point a r z (x ∷ y ∷ xs) t = absurd t.1

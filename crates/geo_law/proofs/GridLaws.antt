@@ -1,4 +1,5 @@
 -- A quantity that is 0 on triangles in pairs of its variables, and on lists in the others, is 0 everywhere. With no pairs this is the law on grids.
+-- lemmas for other crates
 use Rattle.std.proofs.Common.{◌≡◌, ◌≢◌, ℕ, zero, suc, ◌+◌, ◌<◌, ◌≤◌, Bool, true, false, List, [], ◌∷◌, length, get_or, set, ℤ, pos, All, Contains, ⊎_elim, refl, ap, ◌∙◌, sym, arith, length-set, get_or-set_same, get_or-set_other}
 use Rattle.std.proofs.lemmas.Bool.Decides.{nat_tests}
 use Rattle.std.proofs.lemmas.Bool.{cases_eq, cases_lt}

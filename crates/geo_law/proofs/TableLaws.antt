@@ -1,4 +1,5 @@
 -- Values and total degrees of sums, multiples and products of tables.
+-- lemmas for other crates
 use Rattle.std.proofs.Common.{◌≡◌, ℕ, zero, suc, ◌+◌, ◌≤◌, List, [], ◌∷◌, length, ℤ, pos, negsuc, ◌+ℤ◌, ◌-ℤ◌, ◌*ℤ◌, ap₂, ◌∙◌, arith}
 use Rattle.std.proofs.lemmas.Int.{ints}
 use Rattle.geo_algebra.proofs.Ring.{ring, reads}

@@ -23,3 +23,7 @@ bilinear_table q = (q.constant ∷ q.second ∷ []) ∷ (q.first ∷ q.both ∷ 
 -- value number i of xs, and value number j of ys
 abbrev pub point : List ℤ → List ℤ → ℕ → ℕ → List ℤ
 point xs ys i j = slice_index_or xs i (pos 0) ∷ slice_index_or ys j (pos 0) ∷ []
+
+-- a multiple of the first entry
+abbrev pub multiple_value : ℤ → List ℤ → ℤ
+multiple_value a xs = a *ℤ slice_index_or xs 0 (pos 0)

@@ -4,7 +4,7 @@ ghost use Rattle.std.specs.Prelude.{◌≡◌, ◌≢◌, ◌+◌, ◌<◌, ℕ,
 ghost use Rattle.geo_law.specs.Coefficients.{AreDistinct};
 ghost use Rattle.geo_law.specs.Grids.{IsZeroEverywhere};
 ghost use Rattle.geo_law.specs.Triangles.{HasEnoughForTriangles, IsZeroOnTriangles};
-ghost use Rattle.geo_law.specs.Examples.{bilinear_value, point, bilinear_coefficients, bilinear_table};
+ghost use Rattle.geo_law.specs.Examples.{bilinear_value, point, bilinear_coefficients, bilinear_table, multiple_value};
 ghost use Rattle.geo_law.specs.ExampleLaws.{bilinear_agrees, bilinear_pairs, bilinear_pairs_agree};
 
 use crate::{PairQuantity, Quantity, zero_on_grid, zero_on_triangles};
@@ -38,22 +38,22 @@ impl PairQuantity for Bilinear {
     ghost pairs_agree = { λ q xs p x y. bilinear_pairs_agree q xs p x y };
 }
 
-/// A number, whatever the one variable is.
+/// A multiple of the one variable.
 #[derive(Clone, Copy)]
-struct Constant {
+struct Multiple {
     number: i64,
 }
 
-impl Quantity for Constant {
-    ghost use Rattle.geo_law.specs.ExampleLaws.{constant_agrees};
+impl Quantity for Multiple {
+    ghost use Rattle.geo_law.specs.ExampleLaws.{multiple_agrees};
 
     ghost variables = { λ q. 1 };
 
-    ghost value = { λ q xs. q.number };
+    ghost value = { λ q xs. multiple_value q.number xs };
 
-    ghost coefficients = { λ q xs place. q.number ∷ [] };
+    ghost coefficients = { λ q xs place. pos 0 ∷ q.number ∷ [] };
 
-    ghost agrees = { λ q xs place x. constant_agrees q.number xs place x };
+    ghost agrees = { λ q xs place x. multiple_agrees q.number xs place x };
 }
 
 /// The quantity behind a reference: an implementation that stands on the laws of another.
@@ -100,11 +100,12 @@ fn zero_at_six_points(form: &Bilinear)
     zero_on_triangles(form);
 }
 
-/// A constant that is 0 at one value is 0 everywhere.
-fn zero_at_one_value(constant: &Constant)
-    ensures { constant.now.number ≡ pos 0 → IsZeroEverywhere (λ xs. constant.now.number) 1 }
+/// A multiple that is 0 at one value other than 0 is 0 everywhere.
+fn zero_at_one_value(multiple: &Multiple)
+    ensures { (r : ℤ) → r ≢ pos 0 → multiple_value multiple.now.number (r ∷ []) ≡ pos 0 →
+        IsZeroEverywhere (multiple_value multiple.now.number) 1 }
 {
-    zero_on_grid(constant);
+    zero_on_grid(multiple);
 }
 
 /// The law on triangles for any quantity, by way of a reference to it.

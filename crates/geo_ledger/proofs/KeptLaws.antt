@@ -13,20 +13,22 @@ use Rattle.geo_sketch.specs.declared.changes.Delta.{Delta}
 use Rattle.geo_sketch.specs.declared.changes.Delta.TheVariants as delta
 use Rattle.geo_sketch.specs.Changes.{applied, exchanged, taken_back, without, LeadsFrom, LeadsTo}
 use Rattle.geo_sketch.specs.Drops.{speaks_of}
-use Rattle.geo_sketch.specs.Sketches.{Drawing, IsDrawn, IsPosed, kind_at, numbered, other}
-use Rattle.geo_sketch.specs.Tables.{IsConstruction, IsLive}
+use Rattle.geo_sketch.specs.Sketches.{Drawing, IsDrawn, IsPosed, other}
+use Rattle.geo_sketch.specs.Lookups.{kind_at, numbered, IsLive}
+use Rattle.geo_sketch.specs.Constructions.{IsConstruction}
 use Rattle.geo_sketch.proofs.ChangeLaws.{taken_back_is}
-use Rattle.geo_sketch.proofs.ClaimLaws.{neither}
 use Rattle.geo_sketch.proofs.ConstructionLaws.{computed_more}
 use Rattle.geo_sketch.proofs.DropLaws.{left_values}
-use Rattle.geo_sketch.proofs.DualLaws.{all_exchanged_twice, computed_exchanged, numbered_exchanged}
-use Rattle.geo_sketch.proofs.HeightLaws.{live}
+use Rattle.geo_sketch.proofs.DualLaws.{all_exchanged_twice, computed_exchanged, posed_exchanged}
+use Rattle.geo_sketch.proofs.SketchLaws.{live, constructed}
 use Rattle.geo_sketch.proofs.NumberLaws.{gone, others_same, others_stay}
-use Rattle.geo_height.specs.Bounds.{AtStated}
-use Rattle.geo_height.proofs.HeightLaws.{constructed}
+use Rattle.geo_sketch.specs.Needs.{AtStated}
 use Rattle.geo_ledger.specs.Ledgers.{AreKept, IsKept}
-use Rattle.geo_ledger.specs.Changes.{forgetting, kept_after, kept_before}
-use Rattle.geo_ledger.proofs.SameQuestions.{at_stated, by_all, same_back, verdict_same, AreSame}
+use Rattle.geo_ledger.specs.Changes.{forgetting, kept_without, leaving}
+use Rattle.geo_sketch.specs.Posing.{is_posed}
+use Rattle.geo_sketch.proofs.PosingLaws.{decides_posed}
+use Rattle.geo_sketch.proofs.StatementLaws.{at_stated, names_others, posed_same}
+use Rattle.geo_ledger.proofs.SameQuestions.{by_all, same_back, verdict_same, AreSame}
 
 -- ---- the elements that a statement names
 posed_live : (es : List Element) (s : Statement) → IsPosed es s → AtStated s (IsLive es)
@@ -35,20 +37,12 @@ posed_live es (statement.Same n m) h = (live es n h.1.0 h.1.1.0, live es m h.1.0
 posed_live es (statement.On n m) h = (live es n h.1.0 h.1.1.0, live es m (other h.1.0) h.1.1.1)
 posed_live es (statement.Triple n m k) h = (live es n h.2.0 h.2.1.0, live es m h.2.0 h.2.1.1, live es k h.2.0 h.2.1.2)
 
-names_others : (s : Statement) (n : ℕ) → speaks_of s n ≡ false → AtStated s (λ k. k ≢ n)
-names_others (statement.Null k) n h = eqb-false k n h
-names_others (statement.Same k m) n h = let each = neither (k == n) (m == n) h in (eqb-false k n each.0, eqb-false m n each.1)
-names_others (statement.On k m) n h = let each = neither (k == n) (m == n) h in (eqb-false k n each.0, eqb-false m n each.1)
-names_others (statement.Triple k m l) n h =
-    let first = neither (k == n) ((m == n) || (l == n)) h in
-    let each = neither (m == n) (l == n) first.1 in
-    (eqb-false k n first.0, eqb-false m n each.0, eqb-false l n each.1)
+-- a statement is posed, computed and not
+posed_is : (es : List Element) (s : Statement) → is_posed es s ≡ true → IsPosed es s
+posed_is es s = (decides_posed es s).0
 
-posed_same : (es fs : List Element) (s : Statement) → AtStated s (λ n. kind_at es n ≡ kind_at fs n) → IsPosed es s → IsPosed fs s
-posed_same es fs (statement.Null n) q h = (h.0, sym q ∙ h.1)
-posed_same es fs (statement.Same n m) q h = (h.0, (h.1.0, (sym q.0 ∙ h.1.1.0, sym q.1 ∙ h.1.1.1)))
-posed_same es fs (statement.On n m) q h = (h.0, (h.1.0, (sym q.0 ∙ h.1.1.0, sym q.1 ∙ h.1.1.1)))
-posed_same es fs (statement.Triple n m k) q h = (h.0, h.1, (h.2.0, (sym q.0 ∙ h.2.1.0, sym q.1 ∙ h.2.1.1, sym q.2 ∙ h.2.1.2)))
+is_posed_there : (es : List Element) (s : Statement) → IsPosed es s → is_posed es s ≡ true
+is_posed_there es s = (decides_posed es s).1
 
 -- ---- a kept verdict, from one list of elements to another
 -- the lists have the same element under this number, and make the same of it
@@ -59,8 +53,10 @@ alike_back : (es fs : List Element) (n : ℕ) → Alike es fs n → Alike fs es 
 alike_back es fs n h = (sym h.0, same_back es fs n h.1)
 
 carried : (es fs : List Element) → IsConstruction es → IsConstruction fs → (k : Statement × Verdict) → AtStated k.0 (Alike es fs) → IsKept es k → IsKept fs k
-carried es fs c c' k h w =
-    (posed_same es fs k.0 (at_stated (Alike es fs) _ k.0 (λ n p. p.0) h) w.0, verdict_same es fs c c' k.0 k.1 (at_stated (Alike es fs) (AreSame es fs) k.0 (λ n p. p.1) h) w.1)
+carried es fs c c' k h w = (
+  is_posed_there fs k.0 (posed_same es fs k.0 (at_stated (Alike es fs) _ k.0 (λ n p. p.0) h) (posed_is es k.0 w.0)),
+  w.1 ∙ verdict_same es fs c c' k.0 (at_stated (Alike es fs) (AreSame es fs) k.0 (λ n p. p.1) h),
+)
 
 -- those that do not name element n, where all other elements are alike
 but_one : (es fs : List Element) (n : ℕ) (kept : List (Statement × Verdict)) → IsConstruction es → IsConstruction fs → ((m : ℕ) → m ≢ n → Alike es fs m) → All (IsKept es) kept → All (IsKept fs) (forgetting n kept)
@@ -77,7 +73,7 @@ but_one es fs n kept c c' alike h j d l =
 -- all of them, where element n is no element that they may name
 all_live : (es fs : List Element) (n : ℕ) (kept : List (Statement × Verdict)) → IsConstruction es → IsConstruction fs → ((m : ℕ) → m ≢ n → Alike es fs m) → ((m : ℕ) → IsLive es m → m ≢ n) → All (IsKept es) kept → All (IsKept fs) kept
 all_live es fs n kept c c' alike apart h =
-    All-weaker (IsKept es) (IsKept fs) (λ k w. carried es fs c c' k (at_stated (IsLive es) (Alike es fs) k.0 (λ m l. alike m (apart m l)) (posed_live es k.0 w.0)) w) kept h
+    All-weaker (IsKept es) (IsKept fs) (λ k w. carried es fs c c' k (at_stated (IsLive es) (Alike es fs) k.0 (λ m l. alike m (apart m l)) (posed_live es k.0 (posed_is es k.0 w.0))) w) kept h
 
 -- ---- each change
 added_alike : (es : List Element) (e : Element) (n : ℕ) → n ≢ e.number → Alike es (es ++ e ∷ []) n
@@ -93,31 +89,18 @@ dropped_alike drawing e s drawn leads n ne = (
 )
 
 -- exchanging all kinds
-kind_exchanged : (es : List Element) (n : ℕ) (kind : Kind) → kind_at es n ≡ Some kind → kind_at (map exchanged es) n ≡ Some (other kind)
-kind_exchanged es n kind h = rw (numbered_exchanged es n) (by_found (numbered es n) h)
-  where
-    by_found : (o : Option Element) → option_map (λ e. e.kind) o ≡ Some kind → option_map (λ e. e.kind) (option_map exchanged o) ≡ Some (other kind)
-    by_found None g = cc
-    by_found (Some e) g = ap (option_map other) g
-
-posed_exchanged : (es : List Element) (s : Statement) → IsPosed es s → IsPosed (map exchanged es) s
-posed_exchanged es (statement.Null n) h = (other h.0, kind_exchanged es n h.0 h.1)
-posed_exchanged es (statement.Same n m) h = (h.0, (other h.1.0, (kind_exchanged es n h.1.0 h.1.1.0, kind_exchanged es m h.1.0 h.1.1.1)))
-posed_exchanged es (statement.On n m) h = (h.0, (other h.1.0, (kind_exchanged es n h.1.0 h.1.1.0, kind_exchanged es m (other h.1.0) h.1.1.1)))
-posed_exchanged es (statement.Triple n m k) h = (h.0, h.1, (other h.2.0, (kind_exchanged es n h.2.0 h.2.1.0, kind_exchanged es m h.2.0 h.2.1.1, kind_exchanged es k h.2.0 h.2.1.2)))
-
 all_exchanged : (es : List Element) (kept : List (Statement × Verdict)) → IsConstruction es → IsConstruction (map exchanged es) → All (IsKept es) kept → All (IsKept (map exchanged es)) kept
 all_exchanged es kept c c' h =
     All-weaker (IsKept es) (IsKept (map exchanged es))
     (λ k w. (
-      posed_exchanged es k.0 w.0,
-      verdict_same es (map exchanged es) c c' k.0 k.1 (at_stated (IsLive es) (AreSame es (map exchanged es)) k.0 (λ n l. by_all es (map exchanged es) n (λ X A. sym (computed_exchanged A es n))) (posed_live es k.0 w.0)) w.1,
+      is_posed_there (map exchanged es) k.0 (posed_exchanged es k.0 (posed_is es k.0 w.0)),
+      w.1 ∙ verdict_same es (map exchanged es) c c' k.0 (at_stated (IsLive es) (AreSame es (map exchanged es)) k.0 (λ n l. by_all es (map exchanged es) n (λ X A. sym (computed_exchanged A es n))) (posed_live es k.0 (posed_is es k.0 w.0))),
     ))
     kept h
 
 -- ---- through a change
 module _ (drawing : Drawing) where
-  pub kept_done : (d : Delta) (kept : List (Statement × Verdict)) → IsDrawn drawing → LeadsFrom drawing d → AreKept drawing kept → AreKept (applied drawing d) (kept_after d kept)
+  pub kept_done : (d : Delta) (kept : List (Statement × Verdict)) → IsDrawn drawing → LeadsFrom drawing d → AreKept drawing kept → AreKept (applied drawing d) (kept_without (leaving d true) kept)
   kept_done (delta.Added e s) kept drawn leads h =
       all_live drawing.elements (drawing.elements ++ e ∷ []) e.number kept (constructed drawing drawn) (constructed (applied drawing (delta.Added e s)) leads.drawn) (added_alike drawing.elements e)
       (λ m l p. absurd (omega (arith, drawn.given m l.0 l.1, leads.records, p))) h
@@ -128,7 +111,7 @@ module _ (drawing : Drawing) where
   kept_done delta.Dual kept drawn leads h = all_exchanged drawing.elements kept (constructed drawing drawn) (constructed (applied drawing delta.Dual) leads.drawn) h
 
   -- and back
-  kept_undone : (d : Delta) (kept : List (Statement × Verdict)) → IsDrawn drawing → LeadsFrom drawing d → AreKept (applied drawing d) kept → AreKept drawing (kept_before d kept)
+  kept_undone : (d : Delta) (kept : List (Statement × Verdict)) → IsDrawn drawing → LeadsFrom drawing d → AreKept (applied drawing d) kept → AreKept drawing (kept_without (leaving d false) kept)
   kept_undone (delta.Added e s) kept drawn leads h =
       but_one (drawing.elements ++ e ∷ []) drawing.elements e.number kept (constructed (applied drawing (delta.Added e s)) leads.drawn) (constructed drawing drawn)
       (λ m ne. alike_back drawing.elements (drawing.elements ++ e ∷ []) m (added_alike drawing.elements e m ne)) h
@@ -144,7 +127,7 @@ module _ (drawing : Drawing) where
       subst (λ (es : List Element). All (IsKept es) kept) twice
       (all_exchanged (map exchanged drawing.elements) kept (constructed (applied drawing delta.Dual) leads.drawn) (subst IsConstruction (sym twice) here) h)
 
-pub kept_taken_back : (drawing : Drawing) (d : Delta) (kept : List (Statement × Verdict)) → LeadsTo drawing d → AreKept drawing kept → AreKept (taken_back drawing d) (kept_before d kept)
+pub kept_taken_back : (drawing : Drawing) (d : Delta) (kept : List (Statement × Verdict)) → LeadsTo drawing d → AreKept drawing kept → AreKept (taken_back drawing d) (kept_without (leaving d false) kept)
 kept_taken_back drawing d kept leads h =
-    subst (λ (k : Drawing). AreKept k (kept_before d kept)) (sym (taken_back_is drawing d leads))
+    subst (λ (k : Drawing). AreKept k (kept_without (leaving d false) kept)) (sym (taken_back_is drawing d leads))
     (kept_undone leads.before d kept leads.drawn leads.leads (subst (λ (k : Drawing). AreKept k kept) (sym leads.gives) h))

@@ -1,25 +1,31 @@
 -- What a ledger says of a sketch, and what it may keep.
-use Rattle.std.specs.Prelude.{◌≡◌, false, List, All}
-use Rattle.std.specs.List.{AllZip}
+use Rattle.std.specs.Prelude.{◌≡◌, Bool, true, false, List, map, All}
 use Rattle.geo_sketch.specs.declared.elements.Element.{Element}
 use Rattle.geo_sketch.specs.declared.statements.Statement.{Statement}
 use Rattle.geo_sketch.specs.declared.verdicts.Verdict.{Verdict}
-use Rattle.geo_sketch.specs.Sketches.{Drawing, IsPosed}
-use Rattle.geo_degree.specs.Verdicts.{IsStatementVerdict}
+use Rattle.geo_sketch.specs.Sketches.{Drawing}
+use Rattle.geo_degree.specs.VerdictFunction.{verdict_of}
+use Rattle.geo_degree.specs.Verdicts.{question_of}
 use Rattle.geo_ledger.specs.declared.entry.Entry.{Entry}
+use Rattle.geo_sketch.specs.Posing.{is_posed}
+
+-- the statements of the ledger in its order, each with whether it was guessed: the claims
+-- in the order of claiming
+abbrev pub listed : Drawing → List (Statement × Bool)
+listed drawing = map (λ s. (s, false)) drawing.claims
+
+-- what the ledger says of a statement that it lists: its verdict
+abbrev pub entry_in : Drawing → Statement × Bool → Entry
+entry_in drawing line = record { statement = line.0; guessed = line.1; verdict = verdict_of (question_of drawing.elements line.0) }
+
+-- the ledger: each statement that is listed, with its verdict
+abbrev pub ledger_of : Drawing → List Entry
+ledger_of drawing = map (entry_in drawing) (listed drawing)
 
 -- the statement is posed of these elements, and this is its verdict
 abbrev pub IsKept : List Element → Statement × Verdict → Type 0
-IsKept es k = IsPosed es k.0 × IsStatementVerdict es k.0 k.1
+IsKept es k = (is_posed es k.0 ≡ true) × (k.1 ≡ verdict_of (question_of es k.0))
 
 -- so it is of each, in the sketch
 abbrev pub AreKept : Drawing → List (Statement × Verdict) → Type 0
 AreKept drawing kept = All (IsKept drawing.elements) kept
-
--- what the ledger says of one claim: it was not guessed, and this is its verdict
-abbrev pub IsEntry : Drawing → Statement → Entry → Type 0
-IsEntry drawing s e = (e.statement ≡ s) × (e.guessed ≡ false) × IsStatementVerdict drawing.elements s e.verdict
-
--- the claims in the order of claiming, each with its verdict
-abbrev pub IsLedger : Drawing → List Entry → Type 0
-IsLedger drawing entries = AllZip (IsEntry drawing) drawing.claims entries

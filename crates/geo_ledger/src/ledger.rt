@@ -1,12 +1,13 @@
 //! A ledger, which keeps the verdicts that were found.
 
-ghost use Rattle.std.specs.Prelude.{◌≡◌, ◌≤◌, ◌<◌, [], false, filter, not, Contains, IfOk, OnOk};
+ghost use Rattle.std.specs.Prelude.{◌≡◌, ◌≤◌, ◌<◌, [], Some, IsSome, filter, not, slice_get, IfOk};
 ghost use Rattle.std.specs.Borrow.{sem};
-ghost use Rattle.indexmap.specs.IndexMap.{ContainsKey};
+ghost use Rattle.indexmap.specs.IndexMap.{values};
 ghost use Rattle.geo_sketch.specs.Drops.{speaks_of};
 ghost use Rattle.geo_sketch.specs.Sketches.{IsPosed};
-ghost use Rattle.geo_degree.specs.Verdicts.{IsStatementVerdict};
-ghost use Rattle.geo_ledger.specs.Ledgers.{AreKept, IsLedger};
+ghost use Rattle.geo_degree.specs.VerdictFunction.{verdict_of};
+ghost use Rattle.geo_degree.specs.Verdicts.{question_of};
+ghost use Rattle.geo_ledger.specs.Ledgers.{AreKept, ledger_of};
 ghost use Rattle.geo_ledger.specs.Lending.{StaysRight};
 
 use crate::copies::copy_verdict;
@@ -58,13 +59,17 @@ impl Ledger {
     ) -> Result<&[Entry], NoMemory>
         requires workers { (0 < workers) × (workers ≤ 16) }
         requires kept { AreKept sketch.now self.old }
-        ensures entries { IfOk result (λ entries. IsLedger sketch.now entries.now) }
+        ensures entries { IfOk result (λ entries. entries.now ≡ ledger_of sketch.now) }
         ensures* kept { sem 𝓛 (StaysRight sketch.now self.entry) }
     {
         self.list.clear();
         for claim in sketch.claims() {
-            keep(&mut self.kept, alloc, sketch, claim, workers)?;
-            let entry = entry_of(alloc, &self.kept, claim)?;
+            let place = keep(&mut self.kept, alloc, sketch, claim, workers)?;
+            let entry = Entry {
+                statement: *claim,
+                guessed: false,
+                verdict: copy_verdict(alloc, verdict_at(&self.kept, place))?,
+            };
             if self.list.push(entry).is_err() {
                 return Err(NoMemory);
             }
@@ -84,14 +89,11 @@ impl Ledger {
         requires workers { (0 < workers) × (workers ≤ 16) }
         requires posed { IsPosed sketch.now.elements s.now }
         requires kept { AreKept sketch.now self.old }
-        ensures verdict { IfOk result (λ r. IsStatementVerdict sketch.now.elements s.now r.now) }
+        ensures verdict { IfOk result (λ r. r.now ≡ verdict_of (question_of sketch.now.elements s.now)) }
         ensures* kept { sem 𝓛 (StaysRight sketch.now self.entry) }
     {
-        keep(&mut self.kept, alloc, sketch, s, workers)?;
-        match self.kept.get(s) {
-            Some(verdict) => Ok(verdict),
-            None => unreachable!(),
-        }
+        let place = keep(&mut self.kept, alloc, sketch, s, workers)?;
+        Ok(verdict_at(&self.kept, place))
     }
 
     /// Lets go of exactly the verdicts whose statements name element n. It takes no
@@ -103,45 +105,39 @@ impl Ledger {
     }
 }
 
-/// Finds the verdict of a statement, unless it is kept.
+/// The place of a statement's verdict among those that are kept. It is found and kept where
+/// it is not there.
 fn keep(
     kept: &mut IndexMap<Statement, Verdict>,
     alloc: Global,
     sketch: &Sketch,
     s: &Statement,
     workers: u64,
-) -> Result<(), NoMemory>
+) -> Result<usize, NoMemory>
     requires workers { (0 < workers) × (workers ≤ 16) }
     requires posed { IsPosed sketch.now.elements s.now }
     requires kept { AreKept sketch.now kept.old.entries }
     ensures kept { AreKept sketch.now kept.new.entries }
-    ensures there { OnOk result (ContainsKey ⟦<Statement as PartialEq>⟧.eq kept.new s.now) }
+    ensures there { IfOk result (λ place. slice_get (values kept.new) place ≡ Some (verdict_of (question_of sketch.now.elements s.now))) }
 {
-    if kept.contains_key(s) {
-        return Ok(());
+    if let Some(place) = kept.get_index_of(s) {
+        return Ok(place);
     }
     let verdict = settle_in(alloc, sketch, s, workers)?;
+    let place = kept.len();
     match kept.insert(*s, verdict) {
-        Ok(_) => Ok(()),
+        Ok(_) => Ok(place),
         Err(_) => Err(NoMemory),
     }
 }
 
-/// What the ledger says of a claim, from what is kept.
-fn entry_of(
-    alloc: Global,
-    kept: &IndexMap<Statement, Verdict>,
-    claim: &Statement,
-) -> Result<Entry, NoMemory>
-    requires { ContainsKey ⟦<Statement as PartialEq>⟧.eq kept.now claim.now }
-    ensures { IfOk result (λ e. (e.statement ≡ claim.now) × (e.guessed ≡ false) × Contains kept.now.entries (claim.now, e.verdict)) }
+/// The kept verdict at this place.
+fn verdict_at(kept: &IndexMap<Statement, Verdict>, place: usize) -> &Verdict
+    requires { IsSome (slice_get (values kept.now) place) }
+    ensures { slice_get (values kept.now) place ≡ Some result.now }
 {
-    match kept.get(claim) {
-        Some(verdict) => Ok(Entry {
-            statement: *claim,
-            guessed: false,
-            verdict: copy_verdict(alloc, verdict)?,
-        }),
+    match kept.get_index(place) {
+        Some((_, verdict)) => verdict,
         None => unreachable!(),
     }
 }

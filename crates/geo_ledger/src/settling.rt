@@ -1,10 +1,10 @@
 //! Finding the verdict of a statement anew.
 
-ghost use Rattle.std.specs.Prelude.{◌≤◌, ◌<◌, IfOk};
+ghost use Rattle.std.specs.Prelude.{◌≡◌, ◌≤◌, ◌<◌, IfOk};
 ghost use Rattle.geo_sketch.specs.Sketches.{IsPosed};
-ghost use Rattle.geo_degree.specs.Verdicts.{IsStatementVerdict};
+ghost use Rattle.geo_degree.specs.VerdictFunction.{verdict_of};
+ghost use Rattle.geo_degree.specs.Verdicts.{question_of};
 
-use geo_degree::holds_by_the_axes_alone;
 use geo_grid::Posed;
 use geo_settle::settle;
 use geo_sketch::{NoMemory, Sketch, Statement, Verdict};
@@ -19,10 +19,8 @@ pub(crate) fn settle_in(
 ) -> Result<Verdict, NoMemory>
     requires workers { (0 < workers) × (workers ≤ 16) }
     requires posed { IsPosed sketch.now.elements s.now }
-    ensures { IfOk result (λ r. IsStatementVerdict sketch.now.elements s.now r) }
+    ensures { IfOk result (λ r. r ≡ verdict_of (question_of sketch.now.elements s.now)) }
 {
-    holds_by_the_axes_alone();
-    let _drawn = sketch.elements();
     let posed = Posed::new(alloc, sketch, *s)?;
     settle(alloc, &posed, workers)
 }

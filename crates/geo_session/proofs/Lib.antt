@@ -1,7 +1,7 @@
 mod KeptLaws
 mod LedgerLaws
 mod ReachedStates
-mod ScreenLaws
+mod RefusalLaws
 mod SmallNumbers
 mod StateLaws
 mod TogetherLaws

@@ -1,5 +1,5 @@
 -- What is answered to a line, and to a script.
-use Rattle.std.specs.Prelude.{ℕ, ◌+◌, ◌-◌, ◌^◌, ◌++◌, min, Bool, true, false, ◌||◌, Option, None, Some, Result, Ok, Err, List, [], ◌∷◌, flat_map}
+use Rattle.std.specs.Prelude.{ℕ, ◌+◌, ◌-◌, ◌^◌, ◌++◌, min, Bool, true, false, ◌||◌, Option, None, Some, Result, Ok, Err, List, [], ◌∷◌}
 use Rattle.geo_sketch.specs.declared.changes.Delta.{Delta}
 use Rattle.geo_sketch.specs.declared.changes.Delta.TheVariants as delta
 use Rattle.geo_sketch.specs.declared.changes.Refusal.{Refusal}
@@ -10,7 +10,6 @@ use Rattle.geo_sketch.specs.Additions.{addition_of}
 use Rattle.geo_sketch.specs.Claims.{claim_of}
 use Rattle.geo_sketch.specs.Drags.{drag_of}
 use Rattle.geo_sketch.specs.Drops.{drop_of}
-use Rattle.geo_degree.specs.Verdicts.{Verdicts}
 use Rattle.geo_parse.specs.declared.commands.Command.{Command}
 use Rattle.geo_parse.specs.declared.commands.Command.TheVariants as command
 use Rattle.geo_parse.specs.Reading.{read_of}
@@ -18,7 +17,7 @@ use Rattle.geo_eval.specs.Shown.{shown_of}
 use Rattle.geo_session.specs.declared.state.Reply.{Reply}
 use Rattle.geo_session.specs.declared.state.Reply.TheVariants as reply
 use Rattle.geo_session.specs.Texts.{screen_text, ok_line, refusal_line}
-use Rattle.geo_session.specs.LedgerTexts.{ledger_text}
+use Rattle.geo_session.specs.Printed.{Piece, Text, ledger_lines}
 
 -- the changes that are done, those that were undone, and how many lines were read
 pub record State : Type 0 where
@@ -34,36 +33,27 @@ start = record { done = []; undone = []; count = 0 }
 abbrev pub drawing_of : State → Drawing
 drawing_of state = made_of state.done
 
--- what is written: some bytes, or the ledger of a sketch, whose verdicts are not computed
--- here
-pub data Text : Type 0 where
-  Bytes : List ℕ → Text
-  LedgerOf : Drawing → Text
-
--- its bytes, by the verdict of each statement
-abbrev pub bytes_of : Verdicts → Text → List ℕ
-bytes_of verdict_of (Bytes bytes) = bytes
-bytes_of verdict_of (LedgerOf drawing) = ledger_text verdict_of drawing
-
+-- how the line was taken, what is printed, and the next state
 pub record Answer : Type 0 where
   pub reply : Reply
-  pub text : Text
+  pub printed : List Piece
   pub next : State
 
 -- one more line; the count stays at its last value
 abbrev pub counted : State → State
 counted state = record { done = state.done; undone = state.undone; count = min (state.count + 1) (2 ^ 64 - 1) }
 
+-- the line is refused, and nothing changes
 abbrev pub refused : State → Refusal → Answer
-refused state r = record { reply = reply.Refused r; text = Bytes (refusal_line state.count r); next = state }
+refused state r = record { reply = reply.Refused r; printed = Text (refusal_line state.count r) ∷ []; next = state }
 
--- a text is written
-abbrev pub written : State → Text → Answer
-written state text = record { reply = reply.Accepted; text = text; next = state }
+-- a reply is printed
+abbrev pub replied : State → List Piece → Answer
+replied state printed = record { reply = reply.Accepted; printed = printed; next = state }
 
 -- ok, from the changes that are then done and undone
 abbrev pub moved : State → List Delta → List Delta → Answer
-moved state done undone = record { reply = reply.Accepted; text = Bytes ok_line; next = record { done = done; undone = undone; count = state.count } }
+moved state done undone = record { reply = reply.Accepted; printed = Text ok_line ∷ []; next = record { done = done; undone = undone; count = state.count } }
 
 -- a change is made, and nothing is undone any more; or it is refused
 abbrev pub changed : State → Result Delta Refusal → Answer
@@ -90,13 +80,13 @@ abbrev pub answer_to : State → Command → Answer
 answer_to state (command.Add name kind spec) = changed state (addition_of (drawing_of state) name kind spec)
 answer_to state (command.Claim said) = changed state (claim_of (drawing_of state) said)
 answer_to state command.Dual = changed state (Ok delta.Dual)
-answer_to state command.Screen = written state (Bytes (screen_text (shown_of (drawing_of state))))
+answer_to state command.Screen = replied state (Text (screen_text (shown_of (drawing_of state))) ∷ [])
 answer_to state (command.Drag name to) = changed state (drag_of (drawing_of state) name to)
 answer_to state (command.Drop name) = changed state (drop_of (drawing_of state) name)
 answer_to state command.Undo = taken_back_to state (last_of state.done)
 answer_to state command.Redo = done_again state state.undone
 answer_to state command.Conjectures = refused state refusal.Command
-answer_to state command.Ledger = written state (LedgerOf (drawing_of state))
+answer_to state command.Ledger = replied state (ledger_lines (drawing_of state))
 answer_to state (command.Certify said) = refused state refusal.Command
 answer_to state command.Svg = refused state refusal.Command
 answer_to state (command.Show k) = refused state refusal.Command
@@ -105,21 +95,17 @@ answer_to state (command.Close k) = refused state refusal.Command
 -- to a line, by what it reads as
 abbrev pub answer_by : State → Result (Option Command) Refusal → Answer
 answer_by state (Err r) = refused state r
-answer_by state (Ok None) = record { reply = reply.Nothing; text = Bytes []; next = state }
+answer_by state (Ok None) = record { reply = reply.Nothing; printed = []; next = state }
 answer_by state (Ok (Some c)) = answer_to state c
 
 -- the answer to a line
 unfoldable pub answer_of : State → List ℕ → Answer
 answer_of state line = answer_by (counted state) (read_of line)
 
--- what is written for the lines of a script, one after the other
-unfoldable pub texts_of : State → List (List ℕ) → List Text
-texts_of state [] = []
-texts_of state (line ∷ lines) = (answer_of state line).text ∷ texts_of (answer_of state line).next lines
-
--- the bytes of these texts
-abbrev pub script_reply : Verdicts → State → List (List ℕ) → List ℕ
-script_reply verdict_of state lines = flat_map (bytes_of verdict_of) (texts_of state lines)
+-- what is printed for the lines of a script, one after the other
+unfoldable pub printed_from : State → List (List ℕ) → List Piece
+printed_from state [] = []
+printed_from state (line ∷ lines) = (answer_of state line).printed ++ printed_from (answer_of state line).next lines
 
 abbrev pub is_refused : Reply → Bool
 is_refused reply.Nothing = false

@@ -11,8 +11,7 @@ use Rattle.geo_sketch.specs.declared.statements.Statement.TheVariants as stateme
 use Rattle.geo_sketch.specs.declared.verdicts.Past.TheVariants.{Size, Height}
 use Rattle.geo_sketch.specs.declared.verdicts.Verdict.{Verdict}
 use Rattle.geo_sketch.specs.declared.verdicts.Verdict.TheVariants.{Proved, False, Unsettled}
-use Rattle.geo_sketch.specs.Sketches.{Drawing, kind_at, numbered}
-use Rattle.geo_degree.specs.Verdicts.{Verdicts}
+use Rattle.geo_sketch.specs.Lookups.{kind_at, numbered}
 
 -- ---- statements
 abbrev pub name_in : Option Element → List ℕ
@@ -82,7 +81,3 @@ verdict_values es (Unsettled past) = []
 
 abbrev pub ledger_line : List Element → Statement → Verdict → List ℕ
 ledger_line es s r = verdict_word r ++ (statement_text es s ++ (verdict_values es r ++ codes "\n"))
-
--- a line for each claim, in the order of claiming
-abbrev pub ledger_text : Verdicts → Drawing → List ℕ
-ledger_text verdict_of drawing = flat_map (λ s. ledger_line drawing.elements s (verdict_of drawing.elements s)) drawing.claims

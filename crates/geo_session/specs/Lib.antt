@@ -1,7 +1,7 @@
 pub mod Texts
 pub mod LedgerTexts
-pub mod Answers
 pub mod Truth
+pub mod Printed
+pub mod Answers
 pub mod Standing
-pub mod Kept
 pub mod Together

@@ -47,6 +47,10 @@ refusal_word refusal.Fixed = codes "fixed"
 refusal_word refusal.Nothing = codes "nothing"
 refusal_word refusal.Repeat = codes "repeat"
 refusal_word refusal.View = codes "view"
+refusal_word refusal.Shape = codes "shape"
+refusal_word refusal.Great = codes "great"
+refusal_word refusal.Unproved = codes "unproved"
+refusal_word refusal.Degenerate = codes "degenerate"
 
 abbrev pub refusal_line : ℕ → Refusal → List ℕ
 refusal_line number r = codes "refused " ++ (decimal number ++ (codes " " ++ (refusal_word r ++ codes "\n")))

@@ -1,20 +1,24 @@
-//! Laws of what is written: functions that compute nothing, whose contracts are the laws.
+//! Laws of what is answered: functions that compute nothing, whose contracts are the laws.
 
-ghost use Rattle.std.specs.Prelude.{ℕ, List};
-ghost use Rattle.std.specs.List.{AllByRecursion};
-ghost use Rattle.geo_degree.specs.Verdicts.{AreRight, Verdicts};
-ghost use Rattle.geo_session.specs.Answers.{start, texts_of};
-ghost use Rattle.geo_session.specs.Truth.{IsTrueText};
+ghost use Rattle.std.specs.Prelude.{◌≡◌, ℕ, List};
+ghost use Rattle.geo_sketch.specs.declared.changes.Refusal.{Refusal as Reason};
+ghost use Rattle.geo_session.specs.declared.state.Reply.TheVariants.{Refused};
+ghost use Rattle.geo_session.specs.Answers.{State, start, answer_of, counted, printed_from, refused};
+ghost use Rattle.geo_session.specs.Printed.{AreTrue};
 
-use geo_settle::right_verdicts;
+use geo_degree::verdict_of_is_the_verdict;
 
-/// Whatever the lines of a script are, each verdict in each ledger that they ask for is
-/// true: a statement that is proved holds, one that is false fails at the values beside it,
-/// and one is unsettled only where it passes a limit. There are right verdicts, so this is
-/// said of some.
-pub fn ledgers_are_true()
-    ensures some { (verdict_of : Verdicts) × AreRight verdict_of }
-    ensures ledgers { (verdict_of : Verdicts) → AreRight verdict_of → (lines : List (List ℕ)) → AllByRecursion (IsTrueText verdict_of) (texts_of start lines) }
+/// A refused line changes nothing but the count of lines, and what is printed for it is the
+/// line of its refusal.
+pub fn refused_lines_change_nothing()
+    ensures { (state : State) (line : List ℕ) (r : Reason) → (answer_of state line).reply ≡ Refused r → answer_of state line ≡ refused (counted state) r }
+{}
+
+/// Whatever the lines of a script are, every verdict that is printed for them is true: a
+/// statement that is proved holds, one that is false fails at the values beside it, and one
+/// is unsettled only where it passes the limit that is named.
+pub fn printed_verdicts_are_true()
+    ensures { (lines : List (List ℕ)) → AreTrue (printed_from start lines) }
 {
-    right_verdicts();
+    verdict_of_is_the_verdict();
 }

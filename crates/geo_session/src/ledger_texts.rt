@@ -1,16 +1,12 @@
 //! The text of a ledger, appended to the output.
 
 ghost use Rattle.std.specs.Prelude.{◌≡◌, ◌++◌, ◌/◌, ◌%◌, OnOk, codes, flat_map};
-ghost use Rattle.geo_ledger.specs.Ledgers.{IsLedger};
-ghost use Rattle.geo_sketch.specs.Sketches.{kind_at, numbered};
+ghost use Rattle.geo_ledger.specs.Ledgers.{AreKept};
+ghost use Rattle.geo_sketch.specs.Lookups.{kind_at, numbered};
 ghost use Rattle.geo_session.specs.LedgerTexts.{first_letter, ledger_line, name_at, parameter_text, second_letter, statement_text, two_names, value_text, values_text, verdict_word, word_for};
-ghost use Rattle.geo_session.specs.Kept.{AreRightlyKept};
-ghost use Rattle.geo_session.specs.Standing.{IsAppended};
-ghost use Rattle.geo_session.specs.Answers.{Text};
+ghost use Rattle.geo_session.specs.Printed.{ledger_lines, text_of};
 
-use geo_degree::one_verdict;
 use geo_ledger::{Entry, Ledger};
-use geo_settle::right_verdicts;
 use geo_sketch::{
     Def, Element, Kind, NoMemory, Past, Sketch, Statement, Values, Verdict, find_by_number,
 };
@@ -27,29 +23,23 @@ pub(crate) fn write_ledger(
     ledger: &mut Ledger,
     out: &mut Vec<u8>,
 ) -> Result<(), NoMemory>
-    requires { AreRightlyKept sketch.now ledger.old }
-    ensures written { OnOk result (IsAppended (Text.LedgerOf sketch.now) out.old.items out.new.items) }
-    ensures right { OnOk result (AreRightlyKept sketch.now ledger.new) }
+    requires { AreKept sketch.now ledger.old }
+    ensures written { OnOk result (out.new.items ≡ out.old.items ++ text_of (ledger_lines sketch.now)) }
+    ensures right { OnOk result (AreKept sketch.now ledger.new) }
 {
-    right_verdicts();
-    one_verdict();
-    let _drawn = sketch.elements();
     let entries = ledger.entries(alloc, sketch, WORKERS)?;
-    write_entries(alloc, sketch, entries, out)
+    write_entries(alloc, sketch.elements(), entries, out)
 }
 
-/// Appends a line for each entry, where the entries are the ledger of the sketch.
+/// Appends a line for each entry.
 fn write_entries(
     alloc: Global,
-    sketch: &Sketch,
+    elements: &[Element],
     entries: &[Entry],
     out: &mut Vec<u8>,
 ) -> Result<(), NoMemory>
-    requires { IsLedger sketch.now entries.now }
-    ensures { OnOk result (IsAppended (Text.LedgerOf sketch.now) out.old.items out.new.items) }
+    ensures { OnOk result (out.new.items ≡ out.old.items ++ flat_map (λ e. ledger_line elements.now e.statement e.verdict) entries.now) }
 {
-    one_verdict();
-    let elements = sketch.elements();
     for entry in entries {
         if write_line(alloc, elements, &entry.statement, &entry.verdict, out).is_err() {
             return Err(NoMemory);

@@ -1,12 +1,14 @@
 //! One script's state: what is answered to each line.
 #![tactic(auto)]
 
+mod desk;
 mod edits;
+mod followers;
 mod laws;
 mod ledger_texts;
 mod session;
 mod state;
 mod texts;
 
-pub use laws::ledgers_are_true;
+pub use laws::{printed_verdicts_are_true, refused_lines_change_nothing};
 pub use state::{Reply, Session};

@@ -1,12 +1,10 @@
-//! A session, and how it takes a line.
+//! A session, and how a line was taken.
 
 ghost use Rattle.std.specs.Prelude.{◌≡◌, false};
 ghost use Rattle.geo_session.specs.Together.{IsTogether};
 
-use geo_eval::Scene;
-use geo_ledger::Ledger;
-use geo_sketch::{Refusal, Sketch};
-use geo_undo::History;
+use crate::desk::Desk;
+use geo_sketch::Refusal;
 
 /// How a line was taken.
 #[derive(Clone, Copy, PartialEq, Eq, Debug)]
@@ -22,14 +20,9 @@ pub enum Reply {
 /// The state of one script.
 #[derive(Drop)]
 pub struct Session {
-    pub(crate) sketch: Sketch,
-    pub(crate) history: History,
-    pub(crate) scene: Scene,
-    pub(crate) ledger: Ledger,
-    /// How many lines were read; it stays at its last value.
-    pub(crate) count: u64,
+    pub(crate) desk: Desk,
     /// Memory was wanting.
     pub(crate) spent: bool,
-    // Until then sketch, history, scene and kept verdicts fit.
-    ghost together: { spent ≡ false → IsTogether sketch history.done scene ledger },
+    // Until then what the desk holds fits.
+    ghost together: { spent ≡ false → IsTogether desk },
 }

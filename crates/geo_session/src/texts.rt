@@ -120,5 +120,9 @@ fn word_of_refusal(refusal: Refusal) -> &'static [u8]
         Refusal::Nothing => b"nothing",
         Refusal::Repeat => b"repeat",
         Refusal::View => b"view",
+        Refusal::Shape => b"shape",
+        Refusal::Great => b"great",
+        Refusal::Unproved => b"unproved",
+        Refusal::Degenerate => b"degenerate",
     }
 }

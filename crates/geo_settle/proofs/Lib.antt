@@ -1,3 +1,2 @@
 pub mod AxisValues
-pub mod FoundVerdicts
 pub mod PartLaws

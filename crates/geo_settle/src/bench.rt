@@ -2,7 +2,7 @@
 
 ghost use Rattle.std.specs.Prelude.{◌≡◌, ◌<◌, ◌≤◌, ◌↔◌, ℕ, IfOk};
 ghost use Rattle.geo_degree.specs.Grids.{grid_size};
-ghost use Rattle.geo_degree.specs.Questions.{IsClear, IsLeastFailing, IsWithinLimits, blocks};
+ghost use Rattle.geo_degree.specs.Questions.{IsClear, IsLeastFailing, IsWithinLimits, grid_of};
 
 use geo_grid::{Cursor, Form, Grid};
 use geo_sketch::NoMemory;
@@ -31,13 +31,13 @@ pub struct Bench<'a, F: Form> {
 impl<'a, F: Form> Model for Bench<'a, F> {
     ghost use Rattle.std.specs.Prelude.{◌≡◌};
     ghost use Rattle.geo_degree.specs.Grids.{grid_size};
-    ghost use Rattle.geo_degree.specs.Questions.{blocks};
+    ghost use Rattle.geo_degree.specs.Questions.{grid_of};
 
     ghost Value = { F };
 
     ghost view = { λ bench. bench.cursor.0 };
 
-    ghost invariant = { λ bench. bench.size ≡ grid_size (blocks (F.question bench.cursor.0)) };
+    ghost invariant = { λ bench. bench.size ≡ grid_size (grid_of (F.question bench.cursor.0)) };
 }
 
 impl<'a, F: Form + Sync> Bench<'a, F> {
@@ -50,7 +50,7 @@ impl<'a, F: Form + Sync> Bench<'a, F> {
         grid: &'a Grid,
         workers: u64,
     ) -> Result<Bench<'a, F>, NoMemory>
-        requires grid { grid.now ≡ blocks (F.question form.now) }
+        requires grid { grid.now ≡ (F.question form.now).blocks }
         requires within { IsWithinLimits (F.question form.now) }
         requires workers { (0 < workers) × (workers ≤ 16) }
         ensures { IfOk result (λ bench. bench ≡ form.now) }
@@ -74,7 +74,7 @@ impl<'a, F: Form + Sync> Bench<'a, F> {
 
 /// Goes from point to point until a part is not 0. It counts no steps for its caller.
 fn least_failing<F: Form, L: Ledger>(cursor: &mut Cursor<F>, size: u64, blank: Blank) -> First
-    requires size { size ≡ grid_size (blocks (F.question cursor.old.0)) }
+    requires size { size ≡ grid_size (grid_of (F.question cursor.old.0)) }
     requires name { blank.name ≡ L.name }
     requires parts { blank.parts ≡ L.parts }
     requires some { 0 < blank.parts }

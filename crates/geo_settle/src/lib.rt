@@ -2,14 +2,12 @@
 #![tactic(auto)]
 
 mod bench;
-mod laws;
 mod parts;
 mod samples;
 mod settling;
 mod values;
 
 pub use bench::{Bench, First};
-pub use laws::right_verdicts;
 pub use settling::settle;
 
 #[cfg(test)]

@@ -1,13 +1,15 @@
 //! The verdict on a form.
 
 ghost use Rattle.std.specs.Prelude.{◌≡◌, ◌<◌, ◌≤◌, IfOk};
-ghost use Rattle.geo_degree.specs.Questions.{IsWithinLimits, IsZeroEverywhere, blocks};
-ghost use Rattle.geo_degree.specs.Verdicts.{IsGridVerdict, IsPast, IsSampleVerdict, IsVerdict};
+ghost use Rattle.geo_degree.specs.Questions.{IsWithinLimits, IsZeroEverywhere};
+ghost use Rattle.geo_degree.specs.VerdictFunction.{verdict_of};
+ghost use Rattle.geo_degree.specs.Verdicts.{IsGridVerdict, IsPast, IsSampleVerdict};
 
 use crate::bench::{Bench, First};
 use crate::parts::zero_everywhere;
 use crate::samples::failing_sample;
 use crate::values::values_at;
+use geo_degree::verdict_of_is_the_verdict;
 use geo_grid::{Form, Grid, GridStop};
 use geo_sketch::{NoMemory, Past, Verdict};
 use std::alloc::Global;
@@ -18,8 +20,9 @@ use std::alloc::Global;
 /// has no effect yet.
 pub fn settle<F: Form + Sync>(alloc: Global, form: &F, workers: u64) -> Result<Verdict, NoMemory>
     requires { (0 < workers) × (workers ≤ 16) }
-    ensures { IfOk result (λ r. IsVerdict (F.question form.now) (IsZeroEverywhere (F.question form.now)) r) }
+    ensures { IfOk result (λ r. r ≡ verdict_of (F.question form.now)) }
 {
+    verdict_of_is_the_verdict();
     match Grid::of(alloc, form) {
         Ok(grid) => verdict_on_grid(alloc, form, &grid, workers),
         Err(GridStop::Past(past)) => verdict_at_samples(alloc, form, past),
@@ -34,7 +37,7 @@ fn verdict_on_grid<F: Form + Sync>(
     grid: &Grid,
     workers: u64,
 ) -> Result<Verdict, NoMemory>
-    requires grid { grid.now ≡ blocks (F.question form.now) }
+    requires grid { grid.now ≡ (F.question form.now).blocks }
     requires within { IsWithinLimits (F.question form.now) }
     requires workers { (0 < workers) × (workers ≤ 16) }
     ensures { IfOk result (λ r. IsGridVerdict (F.question form.now) (IsZeroEverywhere (F.question form.now)) r) }

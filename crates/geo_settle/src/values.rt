@@ -2,7 +2,7 @@
 
 ghost use Rattle.std.specs.Prelude.{◌≡◌, ◌<◌, IfOk, length};
 ghost use Rattle.geo_degree.specs.Grids.{grid_size};
-ghost use Rattle.geo_degree.specs.Questions.{blocks, point};
+ghost use Rattle.geo_degree.specs.Questions.{grid_of, point};
 ghost use Rattle.geo_degree.specs.Verdicts.{named};
 
 use geo_degree::Axis;
@@ -28,8 +28,8 @@ pub(crate) fn values_at<F: Form>(
     grid: &Grid,
     index: u64,
 ) -> Result<Values, NoMemory>
-    requires grid { grid.now ≡ blocks (F.question form.now) }
-    requires within { index < grid_size (blocks (F.question form.now)) }
+    requires grid { grid.now ≡ (F.question form.now).blocks }
+    requires within { index < grid_size (grid_of (F.question form.now)) }
     ensures { IfOk result (λ values. values ≡ named (F.question form.now).axes (point (F.question form.now) index)) }
 {
     let mut values = blank_values(alloc, form)?;

@@ -1,4 +1,5 @@
 -- A sketch with one more element is a sketch.
+-- lemmas for other crates
 use Rattle.std.proofs.Common.{◌≡◌, ◌≢◌, ◌∙◌, sym, ap, subst, refl, inl, inr, ℕ, ◌+◌, ◌<◌, ◌≤◌, ◌==◌, ◌++◌, if◌then◌else◌, Bool, true, false, Option, None, Some, option_map, List, [], ◌∷◌, length, arith, length-append}
 use Rattle.std.specs.Prelude.{sum_by, Result, Ok, Err, ◌&&◌, nat_eq, unsigned_abs}
 use Rattle.std.specs.Str.{bytes_eq}
@@ -23,11 +24,12 @@ use Rattle.geo_sketch.specs.declared.elements.Element.{Element}
 use Rattle.geo_sketch.specs.declared.statements.Statement.{Statement}
 use Rattle.geo_sketch.specs.declared.statements.Statement.TheVariants as statement
 use Rattle.geo_sketch.specs.Assignments.{setting_of}
-use Rattle.geo_sketch.specs.Heights.{height_algebra, height_of, new_height, threes, height_limit}
-use Rattle.geo_sketch.specs.Sketches.{Drawing, next_number, IsDrawn, numbered, other, Rises, Refers, IsDefined, IsEntry, IsPosed, ArePosed, IsSketch, element_parameters, parameter_count, values_in, element_limit, parameter_limit, number_limit}
+use Rattle.geo_sketch.specs.PlainHeights.{plain_height_algebra, plain_height_of, new_plain_height, threes, height_limit}
+use Rattle.geo_sketch.specs.Sketches.{Drawing, next_number, IsDrawn, other, Refers, IsDefined, IsEntry, IsPosed, ArePosed, IsSketch, element_parameters, parameter_count, values_in, element_limit, parameter_limit, number_limit}
+use Rattle.geo_sketch.specs.Lookups.{numbered, Rises, find_named}
 use Rattle.geo_sketch.specs.Changes.{LeadsFrom}
-use Rattle.geo_sketch.specs.Additions.{find_named, same_kind, referred, both_referred, with_found, definition_of, first_setting_of, is_full, would_be_tall, new_element, adding, adding_unless, addition_of, IsSmallSpec}
-use Rattle.geo_sketch.proofs.ConstructionLaws.{computed_more}
+use Rattle.geo_sketch.specs.Additions.{same_kind, referred, both_referred, with_found, definition_of, first_setting_of, is_full, would_be_tall, new_element, adding, adding_unless, addition_of, IsSmallSpec}
+use Rattle.geo_sketch.proofs.ConstructionLaws.{computed_before, computed_more}
 use Rattle.geo_sketch.proofs.NumberLaws.{number_found, found_from, kind_stays, others_same, last_found}
 
 -- numbers go on rising where all of them are below the new one
@@ -77,11 +79,11 @@ not_given es next given = by_found (numbered es next) refl
     by_found None q = refl
     by_found (Some e) q = absurd (omega (arith, given next e q))
 
-pub height_stays : (es : List Element) (x : Element) (n : ℕ) → n ≢ x.number → height_of (es ++ x ∷ []) n threes ≡ height_of es n threes
-height_stays es x n h = computed_more (height_algebra threes) es x n ∙ rw (ne_eqb x.number n (λ q. h (sym q))) refl
+pub plain_height_stays : (es : List Element) (x : Element) (n : ℕ) → n ≢ x.number → plain_height_of (es ++ x ∷ []) n threes ≡ plain_height_of es n threes
+plain_height_stays es x n h = computed_before (plain_height_algebra threes) es x n h
 
-pub height_own : (es : List Element) (x : Element) → height_of (es ++ x ∷ []) x.number threes ≡ new_height es x.number x.def
-height_own es x = computed_more (height_algebra threes) es x x.number ∙ cond_both (x.number == x.number) (new_height es x.number x.def) (height_of es x.number threes) (λ h. h ≡ new_height es x.number x.def) (λ t. refl) (λ t. absurd (eqb-false x.number x.number t refl))
+pub plain_height_own : (es : List Element) (x : Element) → plain_height_of (es ++ x ∷ []) x.number threes ≡ new_plain_height es x.number x.def
+plain_height_own es x = computed_more (plain_height_algebra threes) es x x.number ∙ cond_both (x.number == x.number) (new_plain_height es x.number x.def) (plain_height_of es x.number threes) (λ h. h ≡ new_plain_height es x.number x.def) (λ t. refl) (λ t. absurd (eqb-false x.number x.number t refl))
 
 -- what the new element has to meet
 pub record IsNew (es : List Element) (ss : List Setting) (x : Element) (s : Setting) : Type 0 where
@@ -89,7 +91,7 @@ pub record IsNew (es : List Element) (ss : List Setting) (x : Element) (s : Sett
   pub well_defined : IsDefined es x.number x.kind x.def
   pub new_name : find_named es x.name ≡ None
   pub fits : values_in s ≡ parameter_count x.def
-  pub low : new_height es x.number x.def ≤ height_limit
+  pub low : new_plain_height es x.number x.def ≤ height_limit
   pub elements_room : length es + 1 ≤ element_limit
   pub parameters_room : sum_by element_parameters es + parameter_count x.def ≤ parameter_limit
   pub numbers_room : length ss + 1 ≤ number_limit
@@ -104,13 +106,13 @@ module _ (es : List Element) (ss : List Setting) (cs : List Statement) (x : Elem
   entry_stays : (n : ℕ) → n ≢ x.number → (o : Option Element) → numbered es n ≡ o → IsEntry es o (setting_of ss n) → IsEntry (es ++ x ∷ []) o (setting_of ss n)
   entry_stays n ne None q h = h
   entry_stays n ne (Some e) q h =
-      (defined_stays es (x ∷ []) e.number e.kind e.def h.0, h.1, rw (height_stays es x e.number (λ p. ne (sym (number_found es n e q) ∙ p))) h.2)
+      (defined_stays es (x ∷ []) e.number e.kind e.def h.0, h.1, rw (plain_height_stays es x e.number (λ p. ne (sym (number_found es n e q) ∙ p))) h.2)
 
   each_more : (n : ℕ) → IsEntry (es ++ x ∷ []) (numbered (es ++ x ∷ []) n) (setting_of (ss ++ s ∷ []) n)
   each_more n =
       elim (cases_eq n x.number) [
         | inl q ↦ (let P : ℕ → Type 0 = λ k. IsEntry (es ++ x ∷ []) (numbered (es ++ x ∷ []) k) (setting_of (ss ++ s ∷ []) k) in
-            subst P (sym q) (rw (last_found es x none_yet, get_or_push ss s setting.None x.number (sym new.next)) (defined_stays es (x ∷ []) x.number x.kind x.def new.well_defined, new.fits, λ tall. absurd (omega (arith, new.low, height_own es x, tall)))))
+            subst P (sym q) (rw (last_found es x none_yet, get_or_push ss s setting.None x.number (sym new.next)) (defined_stays es (x ∷ []) x.number x.kind x.def new.well_defined, new.fits, λ tall. absurd (omega (arith, new.low, plain_height_own es x, tall)))))
         | inr ne ↦ rw (others_same es x n ne, setting_more ss s n (λ q. ne (q ∙ sym new.next))) (entry_stays n ne (numbered es n) refl (sketch.each n))
       ]
 
@@ -255,7 +257,7 @@ addition_leads drawing name kind s change sketch small h = by_name (find_named d
           well_defined = definition_fits drawing.elements drawing.settings drawing.claims sketch kind s d small q;
           new_name = p;
           fits = first_setting_fits drawing.elements kind s d q;
-          low = ltb-false height_limit (new_height drawing.elements (next_number drawing) d) u;
+          low = ltb-false height_limit (new_plain_height drawing.elements (next_number drawing) d) u;
           elements_room = rooms.0;
           parameters_room = rooms.1;
           numbers_room = rooms.2;

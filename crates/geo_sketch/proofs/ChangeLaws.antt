@@ -1,4 +1,5 @@
 -- What a change makes is taken back to the sketch that it led from.
+-- lemmas for other crates
 use Rattle.std.proofs.Common.{◌≡◌, ◌∙◌, sym, ap, subst, refl, ℕ, ◌+◌, ◌-◌, ◌==◌, ◌++◌, if◌then◌else◌, Bool, true, false, None, Some, List, [], ◌∷◌, length, arith, length-append}
 use Rattle.std.specs.Prelude.{slice_set, nat_lt}
 use Rattle.std.proofs.lemmas.Bool.{cond_both, ltb-true, ltb-false}
@@ -9,7 +10,8 @@ use Rattle.geo_sketch.specs.declared.elements.Element.{Element}
 use Rattle.geo_sketch.specs.declared.changes.Delta.{Delta}
 use Rattle.geo_sketch.specs.declared.changes.Delta.TheVariants as delta
 use Rattle.geo_sketch.specs.Assignments.{setting_of}
-use Rattle.geo_sketch.specs.Sketches.{Drawing, blank, IsDrawn, numbered, Rises}
+use Rattle.geo_sketch.specs.Sketches.{Drawing, blank, IsDrawn}
+use Rattle.geo_sketch.specs.Lookups.{numbered, Rises}
 use Rattle.geo_sketch.specs.Changes.{without, with_placed, all_but_last, applied, taken_back, made_from, AllLead, LeadsFrom, LeadsTo}
 use Rattle.geo_sketch.proofs.DualLaws.{all_exchanged_twice}
 use Rattle.geo_sketch.proofs.NumberLaws.{none_below}

@@ -1,5 +1,6 @@
 -- What is said is a statement about live elements of fitting kinds, and a sketch with
 -- one more claim is a sketch.
+-- lemmas for other crates
 use Rattle.std.proofs.Common.{◌≡◌, ◌≢◌, ◌∙◌, ap, subst, refl, inl, inr, ℕ, ◌<◌, ◌==◌, ◌++◌, if◌then◌else◌, Bool, true, false, Option, None, Some, option_map, List, [], ◌∷◌, length, arith, length-append, min, max, suc, zero}
 use Rattle.std.specs.Prelude.{Result, Ok, Err, ◌&&◌, ◌||◌, nat_le, Contains}
 use Rattle.std.proofs.lemmas.Bool.{cond_both, cases_lt, eqb-false, eq-eqb}
@@ -15,9 +16,10 @@ use Rattle.geo_sketch.specs.declared.statements.Statement.{Statement}
 use Rattle.geo_sketch.specs.declared.statements.Statement.TheVariants as statement
 use Rattle.geo_sketch.specs.declared.statements.Said.{Said}
 use Rattle.geo_sketch.specs.declared.statements.Said.TheVariants as said
-use Rattle.geo_sketch.specs.Sketches.{Drawing, IsDrawn, kind_at, Rises, IsPosed, ArePosed, IsSketch, claim_limit}
+use Rattle.geo_sketch.specs.Sketches.{Drawing, IsDrawn, IsPosed, ArePosed, IsSketch, claim_limit}
+use Rattle.geo_sketch.specs.Lookups.{kind_at, Rises, find_named}
 use Rattle.geo_sketch.specs.Changes.{LeadsFrom}
-use Rattle.geo_sketch.specs.Additions.{find_named, same_kind}
+use Rattle.geo_sketch.specs.Additions.{same_kind}
 use Rattle.geo_sketch.specs.Claims.{null_meant, same_meant, on_meant, triple_meant, meaning_of, in_order, least, middle, greatest, same_statement, is_claimed, claiming, claiming_ordered, claim_of, ordered, resolved, resolution_of}
 use Rattle.geo_sketch.proofs.AdditionLaws.{found_by_name, same_kinds}
 

@@ -1,12 +1,14 @@
 -- What is computed along a construction, number by number.
-use Rattle.std.proofs.Common.{◌≡◌, ◌∙◌, sym, ap, refl, ℕ, ◌+◌, ◌<◌, ◌≤◌, ◌==◌, ◌++◌, if◌then◌else◌, Bool, true, false, Option, None, Some, List, [], ◌∷◌, reverse, arith}
+-- lemmas for other crates
+use Rattle.std.proofs.Common.{◌≡◌, ◌≢◌, ◌∙◌, sym, ap, refl, ℕ, ◌+◌, ◌<◌, ◌≤◌, ◌==◌, ◌++◌, if◌then◌else◌, Bool, true, false, Option, None, Some, option_map, List, [], ◌∷◌, reverse, arith}
 use Rattle.std.proofs.lemmas.Bool.{cond_both, eqb-true, ne_eqb}
 use Rattle.std.proofs.lemmas.List.{reverse-append}
 use Rattle.geo_sketch.specs.declared.elements.Def.{Def}
 use Rattle.geo_sketch.specs.declared.elements.Def.TheVariants.{Free, Fixed, Cut, Blend, Cross}
 use Rattle.geo_sketch.specs.declared.elements.Element.{Element}
-use Rattle.geo_sketch.specs.Constructions.{Algebra, by_def, along, computed, def_at, by_found, AtNamed, IsBuilt, IsStepwise}
-use Rattle.geo_sketch.specs.Sketches.{Rises}
+use Rattle.geo_sketch.specs.Constructions.{Algebra, by_def, along, computed, by_found, AtNamed, IsBuilt, IsStepwise}
+use Rattle.geo_sketch.specs.Lookups.{def_at, numbered, Rises}
+use Rattle.geo_sketch.proofs.NumberLaws.{numbered_back}
 
 pub at_named : (P Q : ℕ → Type 0) (d : Def) → ((k : ℕ) → P k → Q k) → AtNamed d P → AtNamed d Q
 at_named P Q Free f h = tt
@@ -39,7 +41,7 @@ Falls high (e ∷ es) low = (e.number < high) × Falls e.number es low
 found_below : (high : ℕ) (es : List Element) (low n : ℕ) (d : Def) → Falls high es low → def_at es n ≡ Some d → n < high
 found_below high [] low n d f h = cc
 found_below high (x ∷ es) low n d f h =
-    cond_both (x.number == n) (Some x.def) (def_at es n) (λ o. o ≡ Some d → n < high)
+    cond_both (x.number == n) (Some x) (numbered es n) (λ o. option_map (λ e. e.def) o ≡ Some d → n < high)
     (λ t g. omega (arith, eqb-true x.number n t, f.0))
     (λ t g. omega (arith, found_below x.number es low n d f.1 g, f.0))
     h
@@ -61,7 +63,7 @@ along_step : {X : Type 0} (A : Algebra X) (high : ℕ) (es : List Element) (low 
 along_step A high [] low f b n = refl
 along_step A high (x ∷ es) low f b n = by_test (x.number == n) refl (along_step A x.number es low f.1 (built_older high x es low f b) n)
   where
-    by_test : (t : Bool) → (x.number == n) ≡ t → along A es n ≡ by_found A n (def_at es n) (along A es) → (if t then by_def A n x.def (along A es) else along A es n) ≡ by_found A n (if t then Some x.def else def_at es n) (along A (x ∷ es))
+    by_test : (t : Bool) → (x.number == n) ≡ t → along A es n ≡ by_found A n (def_at es n) (along A es) → (if t then by_def A n x.def (along A es) else along A es n) ≡ by_found A n (option_map (λ e. e.def) (if t then Some x else numbered es n)) (along A (x ∷ es))
     by_test true t older =
         by_def_same A n x.def (along A es) (along A (x ∷ es)) (at_named (λ k. k < n) _ x.def (λ k below. passed_over A x es k (omega (arith, eqb-true x.number n t))) (b n x.def (rw t refl)))
     by_test false t older =
@@ -81,38 +83,19 @@ falls_back : (low : ℕ) (es : List Element) → Rises low es → Falls (top low
 falls_back low [] r = omega arith
 falls_back low (e ∷ es) r = rw (reverse-append (e ∷ []) es) (falls_more (top (e.number + 1) es) (reverse es) e low r.0 (falls_back (e.number + 1) es r.1))
 
-def_append : (es fs : List Element) (n : ℕ) → def_at es n ≡ None → def_at (es ++ fs) n ≡ def_at fs n
-def_append [] fs n h = refl
-def_append (x ∷ es) fs n h =
-    cond_both (x.number == n) (Some x.def) (def_at es n) (λ o. o ≡ None → (if x.number == n then Some x.def else def_at (es ++ fs) n) ≡ def_at fs n)
-    (λ t g. cc)
-    (λ t g. rw t (def_append es fs n g))
-    h
-
-none_below : (low : ℕ) (es : List Element) (n : ℕ) → Rises low es → n < low → def_at es n ≡ None
-none_below low [] n r h = refl
-none_below low (e ∷ es) n r h = rw (ne_eqb e.number n (λ q. absurd (omega (arith, q, r.0)))) (none_below (e.number + 1) es n r.1 (omega (arith, r.0)))
-
-def_skips : (es : List Element) (x : Element) (n : ℕ) → (x.number == n) ≡ false → def_at (es ++ x ∷ []) n ≡ def_at es n
-def_skips [] x n h = rw h refl
-def_skips (e ∷ es) x n h = ap (λ o. if e.number == n then Some e.def else o) (def_skips es x n h)
-
-def_back : (low : ℕ) (es : List Element) (n : ℕ) → Rises low es → def_at (reverse es) n ≡ def_at es n
-def_back low [] n r = refl
-def_back low (e ∷ es) n r = rw (reverse-append (e ∷ []) es) (by_test (e.number == n) refl (def_back (e.number + 1) es n r.1))
-  where
-    by_test : (t : Bool) → (e.number == n) ≡ t → def_at (reverse es) n ≡ def_at es n → def_at (reverse es ++ e ∷ []) n ≡ (if t then Some e.def else def_at es n)
-    by_test true t back =
-        def_append (reverse es) (e ∷ []) n (back ∙ none_below (e.number + 1) es n r.1 (omega (arith, eqb-true e.number n t))) ∙ rw t refl
-    by_test false t back = def_skips (reverse es) e n t ∙ back
-
 -- what is computed for each number is its definition applied to what is computed
 -- for the numbers that it names
 pub computed_step : {X : Type 0} (A : Algebra X) (es : List Element) → Rises 0 es → IsBuilt es → IsStepwise A es
 computed_step A es rising built n =
-    along_step A (top 0 es) (reverse es) 0 (falls_back 0 es rising) (λ m d h. built m d (sym (def_back 0 es m rising) ∙ h)) n
-    ∙ ap (λ o. by_found A n o (computed A es)) (def_back 0 es n rising)
+    along_step A (top 0 es) (reverse es) 0 (falls_back 0 es rising) (λ m d h. built m d (sym (def_back m) ∙ h)) n
+    ∙ ap (λ o. by_found A n o (computed A es)) (def_back n)
+  where
+    def_back : (m : ℕ) → def_at (reverse es) m ≡ def_at es m
+    def_back m = ap (option_map (λ (e : Element). e.def)) (numbered_back 0 es m rising)
 
 -- an element that is put behind all others changes nothing for other numbers
 pub computed_more : {X : Type 0} (A : Algebra X) (es : List Element) (e : Element) (n : ℕ) → computed A (es ++ e ∷ []) n ≡ (if e.number == n then by_def A n e.def (computed A es) else computed A es n)
 computed_more A es e n = rw (reverse-append es (e ∷ [])) refl
+
+pub computed_before : {X : Type 0} (A : Algebra X) (es : List Element) (e : Element) (n : ℕ) → n ≢ e.number → computed A (es ++ e ∷ []) n ≡ computed A es n
+computed_before A es e n ne = computed_more A es e n ∙ rw (ne_eqb e.number n (λ q. ne (sym q))) refl

@@ -1,4 +1,5 @@
 -- A sketch with other values of one element is a sketch.
+-- lemmas for other crates
 use Rattle.std.proofs.Common.{◌≡◌, sym, subst, refl, inl, inr, ℕ, ◌<◌, ◌==◌, Bool, true, false, Option, None, Some, List, arith}
 use Rattle.std.specs.Prelude.{slice_set, not, Ok, Err}
 use Rattle.std.proofs.lemmas.Bool.{cond_both, cases_eq, eqb-true, eqb-false}
@@ -11,9 +12,9 @@ use Rattle.geo_sketch.specs.declared.changes.Delta.{Delta}
 use Rattle.geo_sketch.specs.declared.changes.Delta.TheVariants as delta
 use Rattle.geo_sketch.specs.declared.changes.Refusal.TheVariants as refusal
 use Rattle.geo_sketch.specs.Assignments.{setting_of}
-use Rattle.geo_sketch.specs.Sketches.{Drawing, IsDrawn, numbered, IsEntry, IsSketch, parameter_count, values_in}
+use Rattle.geo_sketch.specs.Sketches.{Drawing, IsDrawn, IsEntry, IsSketch, parameter_count, values_in}
+use Rattle.geo_sketch.specs.Lookups.{numbered, find_named}
 use Rattle.geo_sketch.specs.Changes.{LeadsFrom}
-use Rattle.geo_sketch.specs.Additions.{find_named}
 use Rattle.geo_sketch.specs.Drags.{is_fixed_for, dragging, drag_of}
 use Rattle.geo_sketch.proofs.AdditionLaws.{found_by_name}
 use Rattle.geo_sketch.proofs.ClaimLaws.{neither}

@@ -1,7 +1,8 @@
 -- An element that nothing names can leave: all other values stay, and what is left is
 -- a sketch.
+-- lemmas for other crates
 use Rattle.std.proofs.Common.{◌≡◌, ◌≢◌, ◌∙◌, sym, ap, subst, refl, inl, inr, ℕ, ◌<◌, ◌≤◌, ◌==◌, true, false, Option, None, Some, option_map, List, [], ◌∷◌, length, arith}
-use Rattle.std.specs.Prelude.{sum_by, slice_set, ◌||◌, Ok, Err}
+use Rattle.std.specs.Prelude.{sum_by, slice_set, Ok, Err}
 use Rattle.std.proofs.lemmas.Bool.{cond_both, cases_eq, eqb-false}
 use Rattle.std.proofs.lemmas.List.{get_or-set_same, get_or-set_other, length-set}
 use Rattle.std.proofs.lemmas.List.Sums.{sum_by-cons}
@@ -12,24 +13,23 @@ use Rattle.geo_sketch.specs.declared.elements.Setting.{Setting}
 use Rattle.geo_sketch.specs.declared.elements.Setting.TheVariants as setting
 use Rattle.geo_sketch.specs.declared.elements.Element.{Element}
 use Rattle.geo_sketch.specs.declared.statements.Statement.{Statement}
-use Rattle.geo_sketch.specs.declared.statements.Statement.TheVariants as statement
 use Rattle.geo_sketch.specs.declared.changes.Delta.{Delta}
 use Rattle.geo_sketch.specs.declared.changes.Delta.TheVariants as delta
 use Rattle.geo_sketch.specs.declared.changes.Refusal.TheVariants as refusal
-use Rattle.geo_sketch.specs.Constructions.{Algebra, computed, def_at, AtNamed, IsBuilt}
+use Rattle.geo_sketch.specs.Constructions.{Algebra, computed, AtNamed, IsBuilt}
+use Rattle.geo_sketch.specs.Lookups.{def_at, numbered, kind_at, Rises, find_named, IsLive}
 use Rattle.geo_sketch.specs.Assignments.{setting_of}
-use Rattle.geo_sketch.specs.Heights.{height_algebra, threes}
-use Rattle.geo_sketch.specs.Sketches.{Drawing, IsDrawn, numbered, kind_at, other, Rises, IsDefined, IsEntry, IsPosed, ArePosed, IsSketch, element_parameters}
+use Rattle.geo_sketch.specs.PlainHeights.{plain_height_algebra, threes}
+use Rattle.geo_sketch.specs.Sketches.{Drawing, IsDrawn, IsDefined, IsEntry, ArePosed, IsSketch, element_parameters}
 use Rattle.geo_sketch.specs.Dependence.{depends_on}
 use Rattle.geo_sketch.specs.Changes.{without, LeadsFrom}
-use Rattle.geo_sketch.specs.Additions.{find_named}
 use Rattle.geo_sketch.specs.Drops.{refers_to, speaks_of, some_refer_to, some_speak_of, is_used, dropping, drop_of}
-use Rattle.geo_sketch.specs.Tables.{IsLive}
 use Rattle.geo_sketch.proofs.AdditionLaws.{found_by_name}
 use Rattle.geo_sketch.proofs.ConstructionLaws.{at_named}
 use Rattle.geo_sketch.proofs.ClaimLaws.{neither}
-use Rattle.geo_sketch.proofs.HeightLaws.{construction}
-use Rattle.geo_sketch.proofs.NumberLaws.{number_found, def_numbered, gone, others_stay, rises_without}
+use Rattle.geo_sketch.proofs.SketchLaws.{construction, defined_same}
+use Rattle.geo_sketch.proofs.NumberLaws.{number_found, def_found, gone, others_stay, rises_without}
+use Rattle.geo_sketch.proofs.StatementLaws.{posed_but_one}
 use Rattle.geo_sketch.proofs.TableLaws.{built}
 use Rattle.geo_sketch.proofs.ValueLaws.{independent, computed_same, agree_itself}
 
@@ -46,16 +46,16 @@ pub all_name_others : (es : List Element) (n : ℕ) → some_refer_to es n ≡ f
 all_name_others [] n h m d g = cc
 all_name_others (e ∷ es) n h m d g =
     let each = neither (refers_to e.def n) (some_refer_to es n) h in
-    cond_both (e.number == m) (Some e.def) (def_at es m) (λ o. o ≡ Some d → AtNamed d (λ k. k ≢ n))
+    cond_both (e.number == m) (Some e) (numbered es m) (λ o. option_map (λ e. e.def) o ≡ Some d → AtNamed d (λ k. k ≢ n))
     (λ t f. let same : e.def ≡ d = cc in subst (λ (d : Def). AtNamed d (λ k. k ≢ n)) same (others_named e.def n each.0))
     (λ t f. all_name_others es n each.1 m d f)
     g
 
 def_stays : (es : List Element) (n m : ℕ) → m ≢ n → def_at es m ≡ def_at (without es n) m
-def_stays es n m h = def_numbered es m ∙ ap (option_map (λ (e : Element). e.def)) (sym (others_stay es n m h)) ∙ sym (def_numbered (without es n) m)
+def_stays es n m h = ap (option_map (λ (e : Element). e.def)) (sym (others_stay es n m h))
 
 def_gone : (es : List Element) (n : ℕ) → Rises 0 es → def_at (without es n) n ≡ None
-def_gone es n r = def_numbered (without es n) n ∙ ap (option_map (λ (e : Element). e.def)) (gone 0 es n r)
+def_gone es n r = ap (option_map (λ (e : Element). e.def)) (gone 0 es n r)
 
 pub built_without : (es : List Element) (n : ℕ) → Rises 0 es → IsBuilt es → IsBuilt (without es n)
 built_without es n r b m d h =
@@ -72,32 +72,15 @@ values_stay A es n r b unnamed m ne =
 
 -- ---- what holds of a sketch
 module _ (es : List Element) (n : ℕ) where
-  kind_stays : (k : ℕ) (kind : Kind) → k ≢ n → kind_at es k ≡ Some kind → kind_at (without es n) k ≡ Some kind
-  kind_stays k kind ne h = ap (option_map (λ (e : Element). e.kind)) (others_stay es n k ne) ∙ h
+  kind_stays : (k : ℕ) → k ≢ n → kind_at (without es n) k ≡ kind_at es k
+  kind_stays k ne = ap (option_map (λ (e : Element). e.kind)) (others_stay es n k ne)
 
   defined_stays : (m : ℕ) (kind : Kind) (d : Def) → AtNamed d (λ k. k ≢ n) → IsDefined es m kind d → IsDefined (without es n) m kind d
-  defined_stays m kind Free o h = tt
-  defined_stays m kind (Fixed a b c) o h = h
-  defined_stays m kind (Cut k) o h = (h.0, kind_stays k (other kind) o h.1)
-  defined_stays m kind (Blend k l) o h = ((h.0.0, kind_stays k kind o.0 h.0.1), (h.1.0, kind_stays l kind o.1 h.1.1))
-  defined_stays m kind (Cross k l) o h = ((h.0.0, kind_stays k (other kind) o.0 h.0.1), (h.1.0, kind_stays l (other kind) o.1 h.1.1))
-
-  posed_stays : (c : Statement) → speaks_of c n ≡ false → IsPosed es c → IsPosed (without es n) c
-  posed_stays (statement.Null k) o h = (h.0, kind_stays k h.0 (eqb-false k n o) h.1)
-  posed_stays (statement.Same k m) o h =
-      let each = neither (k == n) (m == n) o in
-      (h.0, (h.1.0, (kind_stays k h.1.0 (eqb-false k n each.0) h.1.1.0, kind_stays m h.1.0 (eqb-false m n each.1) h.1.1.1)))
-  posed_stays (statement.On k m) o h =
-      let each = neither (k == n) (m == n) o in
-      (h.0, (h.1.0, (kind_stays k h.1.0 (eqb-false k n each.0) h.1.1.0, kind_stays m (other h.1.0) (eqb-false m n each.1) h.1.1.1)))
-  posed_stays (statement.Triple k m l) o h =
-      let first = neither (k == n) ((m == n) || (l == n)) o in
-      let each = neither (m == n) (l == n) first.1 in
-      (h.0, h.1, (h.2.0, (kind_stays k h.2.0 (eqb-false k n first.0) h.2.1.0, kind_stays m h.2.0 (eqb-false m n each.0) h.2.1.1, kind_stays l h.2.0 (eqb-false l n each.1) h.2.1.2)))
+  defined_stays m kind d o = defined_same es (without es n) m kind d (at_named (λ k. k ≢ n) (λ k. kind_at (without es n) k ≡ kind_at es k) d kind_stays o)
 
   all_posed_stay : (cs : List Statement) → some_speak_of cs n ≡ false → ArePosed es cs → ArePosed (without es n) cs
   all_posed_stay [] o h = tt
-  all_posed_stay (c ∷ cs) o h = let each = neither (speaks_of c n) (some_speak_of cs n) o in (posed_stays c each.0 h.0, all_posed_stay cs each.1 h.1)
+  all_posed_stay (c ∷ cs) o h = let each = neither (speaks_of c n) (some_speak_of cs n) o in ((posed_but_one es (without es n) n (λ m ne. sym (others_stay es n m ne)) c each.0).0 h.0, all_posed_stay cs each.1 h.1)
 
 fewer : (es : List Element) (n : ℕ) → length (without es n) ≤ length es
 fewer [] n = omega arith
@@ -119,9 +102,9 @@ module _ (es : List Element) (ss : List Setting) (cs : List Statement) (n : ℕ)
   entry_stays m ne None q h = h
   entry_stays m ne (Some e) q h =
       let own : e.number ≡ m = number_found es m e q in
-      let found : def_at es m ≡ Some e.def = def_numbered es m ∙ ap (option_map (λ (x : Element). x.def)) q in
+      let found = def_found es m e q in
       let b = built es (construction es ss cs sketch) in
-      (defined_stays es n e.number e.kind e.def (all_name_others es n unnamed m e.def found) h.0, h.1, rw (← (values_stay (height_algebra threes) es n sketch.rising b (all_name_others es n unnamed) e.number (λ p. ne (sym own ∙ p)))) h.2)
+      (defined_stays es n e.number e.kind e.def (all_name_others es n unnamed m e.def found) h.0, h.1, rw (← (values_stay (plain_height_algebra threes) es n sketch.rising b (all_name_others es n unnamed) e.number (λ p. ne (sym own ∙ p)))) h.2)
 
   each_stays : n < length ss → (m : ℕ) → IsEntry (without es n) (numbered (without es n) m) (setting_of (slice_set ss n setting.None) m)
   each_stays within m =
@@ -173,7 +156,7 @@ left_unnamed drawing e s sketch leads m d h =
     let before = construction drawing.elements drawing.settings drawing.claims sketch in
     elim (cases_eq m e.number) [
       | inl q ↦ at_named (λ k. k < m) (λ k. k ≢ e.number) d (λ k less p. absurd (omega (arith, less, p, q))) (built drawing.elements before m d h)
-      | inr ne ↦ by_found (numbered (without drawing.elements e.number) m) refl (sym (def_numbered (without drawing.elements e.number) m) ∙ sym (def_stays drawing.elements e.number m ne) ∙ h)
+      | inr ne ↦ by_found (numbered (without drawing.elements e.number) m) refl (sym (def_stays drawing.elements e.number m ne) ∙ h)
     ]
   where
     by_found : (o : Option Element) → numbered (without drawing.elements e.number) m ≡ o → option_map (λ x. x.def) o ≡ Some d → AtNamed d (λ k. k ≢ e.number)

@@ -1,5 +1,6 @@
 -- Exchanging all kinds keeps all values, and gives a sketch.
-use Rattle.std.proofs.Common.{◌≡◌, ◌∙◌, sym, ap, refl, ℕ, ◌+◌, ◌==◌, ◌++◌, if◌then◌else◌, Option, None, Some, option_map, List, [], ◌∷◌, reverse, map, ℤ}
+-- lemmas for other crates
+use Rattle.std.proofs.Common.{◌≡◌, ◌∙◌, sym, ap, subst, refl, ℕ, ◌+◌, ◌==◌, ◌++◌, if◌then◌else◌, Option, None, Some, option_map, List, [], ◌∷◌, reverse, map, ℤ}
 use Rattle.std.specs.Prelude.{sum_by}
 use Rattle.std.proofs.lemmas.Bool.{cond_both}
 use Rattle.std.proofs.lemmas.List.{reverse-append, length-map}
@@ -13,12 +14,15 @@ use Rattle.geo_sketch.specs.declared.elements.Element.{Element}
 use Rattle.geo_sketch.specs.declared.statements.Statement.{Statement}
 use Rattle.geo_sketch.specs.declared.statements.Statement.TheVariants as statement
 use Rattle.geo_sketch.specs.Constructions.{Algebra, along, by_def, computed}
-use Rattle.geo_triple.specs.Triple.{cross_of, dot_of, determinant_of}
-use Rattle.geo_sketch.specs.Triples.{triple_algebra, coordinates, parts_at}
+use Rattle.geo_sketch.specs.Triples.{triple_algebra, triple_at}
+use Rattle.geo_sketch.specs.Statements.{parts_at}
 use Rattle.geo_sketch.specs.Assignments.{setting_of}
-use Rattle.geo_sketch.specs.Heights.{height_algebra, threes}
-use Rattle.geo_sketch.specs.Sketches.{numbered, kind_at, other, Rises, Refers, IsDefined, IsEntry, IsPosed, ArePosed, IsSketch, element_parameters}
+use Rattle.geo_sketch.specs.PlainHeights.{plain_height_algebra, threes}
+use Rattle.geo_sketch.specs.Sketches.{other, Refers, IsDefined, IsEntry, IsPosed, ArePosed, IsSketch, element_parameters}
+use Rattle.geo_sketch.specs.Lookups.{def_at, numbered, kind_at, Rises}
 use Rattle.geo_sketch.specs.Changes.{exchanged}
+use Rattle.geo_sketch.proofs.NumberLaws.{came_from, mapped_twice}
+use Rattle.geo_sketch.proofs.StatementLaws.{at_all, parts_same}
 
 -- ---- twice is not at all
 other_twice : (k : Kind) → other (other k) ≡ k
@@ -51,10 +55,7 @@ pub computed_exchanged : {X : Type 0} (A : Algebra X) (es : List Element) (n : �
 computed_exchanged A es n = ap (λ (zs : List Element). along A zs n) (exchanged_back es) ∙ along_exchanged A (reverse es) n
 
 pub parts_exchanged : (es : List Element) (v : ℕ → ℤ) (c : Statement) → parts_at (map exchanged es) c v ≡ parts_at es c v
-parts_exchanged es v (statement.Null n) = ap coordinates (computed_exchanged (triple_algebra v) es n)
-parts_exchanged es v (statement.Same n m) = λ i. coordinates (cross_of (computed_exchanged (triple_algebra v) es n i) (computed_exchanged (triple_algebra v) es m i))
-parts_exchanged es v (statement.On n m) = λ i. dot_of (computed_exchanged (triple_algebra v) es n i) (computed_exchanged (triple_algebra v) es m i) ∷ []
-parts_exchanged es v (statement.Triple n m k) = λ i. determinant_of (computed_exchanged (triple_algebra v) es n i) (computed_exchanged (triple_algebra v) es m i) (computed_exchanged (triple_algebra v) es k i) ∷ []
+parts_exchanged es v c = parts_same (map exchanged es) es c v v (at_all (λ n. triple_at (map exchanged es) n v ≡ triple_at es n v) c (computed_exchanged (triple_algebra v) es))
 
 -- ---- what holds of a sketch
 pub numbered_exchanged : (es : List Element) (n : ℕ) → numbered (map exchanged es) n ≡ option_map exchanged (numbered es n)
@@ -63,6 +64,9 @@ numbered_exchanged (e ∷ es) n =
     cond_both (e.number == n) (Some e) (numbered es n) (λ o. (if e.number == n then Some (exchanged e) else numbered (map exchanged es) n) ≡ option_map exchanged o)
     (λ t. rw t refl)
     (λ t. rw t (numbered_exchanged es n))
+
+pub def_exchanged : (es : List Element) (n : ℕ) → def_at (map exchanged es) n ≡ def_at es n
+def_exchanged es n = ap (option_map (λ (e : Element). e.def)) (numbered_exchanged es n) ∙ mapped_twice (λ e. e.def) exchanged (numbered es n)
 
 kind_exchanged : (es : List Element) (n : ℕ) (kind : Kind) → kind_at es n ≡ Some kind → kind_at (map exchanged es) n ≡ Some (other kind)
 kind_exchanged es n kind h = rw (numbered_exchanged es n) (by_found (numbered es n) h)
@@ -81,11 +85,14 @@ defined_exchanged es n kind (Cut k) h = refers_exchanged es n k (other kind) h
 defined_exchanged es n kind (Blend k m) h = (refers_exchanged es n k kind h.0, refers_exchanged es n m kind h.1)
 defined_exchanged es n kind (Cross k m) h = (refers_exchanged es n k (other kind) h.0, refers_exchanged es n m (other kind) h.1)
 
-posed_exchanged : (es : List Element) (c : Statement) → IsPosed es c → IsPosed (map exchanged es) c
+pub posed_exchanged : (es : List Element) (c : Statement) → IsPosed es c → IsPosed (map exchanged es) c
 posed_exchanged es (statement.Null n) h = (other h.0, kind_exchanged es n h.0 h.1)
 posed_exchanged es (statement.Same n m) h = (h.0, (other h.1.0, (kind_exchanged es n h.1.0 h.1.1.0, kind_exchanged es m h.1.0 h.1.1.1)))
 posed_exchanged es (statement.On n m) h = (h.0, (other h.1.0, (kind_exchanged es n h.1.0 h.1.1.0, kind_exchanged es m (other h.1.0) h.1.1.1)))
 posed_exchanged es (statement.Triple n m k) h = (h.0, h.1, (other h.2.0, (kind_exchanged es n h.2.0 h.2.1.0, kind_exchanged es m h.2.0 h.2.1.1, kind_exchanged es k h.2.0 h.2.1.2)))
+
+pub posed_back : (es : List Element) (c : Statement) → IsPosed (map exchanged es) c → IsPosed es c
+posed_back es c h = subst (λ (fs : List Element). IsPosed fs c) (all_exchanged_twice es) (posed_exchanged (map exchanged es) c h)
 
 all_posed_exchanged : (es : List Element) (cs : List Statement) → ArePosed es cs → ArePosed (map exchanged es) cs
 all_posed_exchanged es [] h = tt
@@ -99,24 +106,19 @@ parameters_exchanged : (es : List Element) → sum_by element_parameters (map ex
 parameters_exchanged [] = refl
 parameters_exchanged (e ∷ es) = sum_by-cons element_parameters (exchanged e) (map exchanged es) ∙ ap (λ n. element_parameters e + n) (parameters_exchanged es) ∙ sym (sum_by-cons element_parameters e es)
 
--- an element that is found in the other list
-came_from : (o : Option Element) (e : Element) → option_map exchanged o ≡ Some e → (x : Element) × ((o ≡ Some x) × (exchanged x ≡ e))
-came_from None e h = cc
-came_from (Some x) e h = (x, (refl, (cc)))
-
 module _ (es : List Element) (ss : List Setting) (cs : List Statement) (sketch : IsSketch es ss cs) where
   entry_exchanged : (n : ℕ) (o : Option Element) → IsEntry es o (setting_of ss n) → IsEntry (map exchanged es) (option_map exchanged o) (setting_of ss n)
   entry_exchanged n None h = h
-  entry_exchanged n (Some e) h = (defined_exchanged es e.number e.kind e.def h.0, h.1, rw (computed_exchanged (height_algebra threes) es e.number) h.2)
+  entry_exchanged n (Some e) h = (defined_exchanged es e.number e.kind e.def h.0, h.1, rw (computed_exchanged (plain_height_algebra threes) es e.number) h.2)
 
   pub dual_drawn : IsSketch (map exchanged es) ss cs
   dual_drawn = record {
     rising = rises_exchanged 0 es sketch.rising;
-    given = λ n e q. let x = came_from (numbered es n) e (sym (numbered_exchanged es n) ∙ q) in sketch.given n x.0 x.1.0;
+    given = λ n e q. let x = came_from exchanged (numbered es n) e (sym (numbered_exchanged es n) ∙ q) in sketch.given n x.0 x.1.0;
     each = λ n. rw (numbered_exchanged es n) (entry_exchanged n (numbered es n) (sketch.each n));
     apart = λ n m e f q r same.
-        let x = came_from (numbered es n) e (sym (numbered_exchanged es n) ∙ q) in
-        let y = came_from (numbered es m) f (sym (numbered_exchanged es m) ∙ r) in
+        let x = came_from exchanged (numbered es n) e (sym (numbered_exchanged es n) ∙ q) in
+        let y = came_from exchanged (numbered es m) f (sym (numbered_exchanged es m) ∙ r) in
         sketch.apart n m x.0 y.0 x.1.0 y.1.0 (ap (λ (z : Element). z.name) x.1.1 ∙ same ∙ sym (ap (λ (z : Element). z.name) y.1.1));
     posed = all_posed_exchanged es cs sketch.posed;
     elements_room = rw (length-map es exchanged) sketch.elements_room;

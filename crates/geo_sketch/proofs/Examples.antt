@@ -1,16 +1,19 @@
 -- The definitions, computed on a small construction: the points (0, 0) and (4, 2), the
 -- line through them, and a point on it.
 use Rattle.std.proofs.Common.{◌≡◌, refl, ℕ, ℤ, pos, negsuc, true, false, List, [], ◌∷◌}
+use Rattle.geo_triple.specs.Sums.{cross_sums, dot_sum, of_sizes}
 use Rattle.geo_triple.specs.Triple.{cross_of, cut_of}
 use Rattle.geo_sketch.specs.declared.elements.Kind.TheVariants.{Point, Line}
 use Rattle.geo_sketch.specs.declared.elements.Def.TheVariants.{Fixed, Cut, Cross}
 use Rattle.geo_sketch.specs.declared.elements.Element.{Element}
 use Rattle.geo_sketch.specs.declared.statements.Statement.TheVariants.{On, Triple}
-use Rattle.geo_sketch.specs.Triples.{triple_at, of_coordinates, parts_at}
+use Rattle.geo_sketch.specs.Triples.{triple_at, of_coordinates}
+use Rattle.geo_sketch.specs.Statements.{parts_at}
 use Rattle.geo_sketch.specs.Assignments.{assignment_of}
-use Rattle.geo_sketch.specs.Heights.{height_of, threes}
+use Rattle.geo_sketch.specs.Heights.{heights_at, statement_height}
+use Rattle.geo_sketch.specs.PlainHeights.{plain_height_of, threes}
 use Rattle.geo_sketch.specs.Dependence.{depends_on}
-use Rattle.geo_sketch.specs.Plain.{is_plain}
+use Rattle.geo_sketch.specs.PlainStatements.{is_plain}
 
 abbrev sketched : List Element
 sketched =
@@ -36,11 +39,23 @@ on_line : parts_at sketched (On 2 3) at_two ≡ pos 0 ∷ []
 unfolding cross_of cut_of
 on_line = refl
 
-line_height : height_of sketched 2 threes ≡ 8
-line_height = refl
+line_plain_height : plain_height_of sketched 2 threes ≡ 8
+line_plain_height = refl
 
-point_height : height_of sketched 3 threes ≡ 32
-point_height = refl
+point_plain_height : plain_height_of sketched 3 threes ≡ 32
+point_plain_height = refl
+
+line_heights : heights_at sketched 2 threes ≡ of_sizes 3 5 6
+unfolding cross_sums
+line_heights = refl
+
+point_heights : heights_at sketched 3 threes ≡ of_sizes 15 15 5
+unfolding cross_sums
+point_heights = refl
+
+on_height : statement_height sketched (On 2 3) threes ≡ 150
+unfolding cross_sums dot_sum
+on_height = refl
 
 point_depends : depends_on sketched 3 0 ≡ true
 point_depends = refl

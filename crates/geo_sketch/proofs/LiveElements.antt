@@ -1,12 +1,11 @@
 -- What is computed along a construction for each live element, and for what is none.
+-- lemmas for other crates
 use Rattle.std.proofs.Common.{◌≡◌, ◌∙◌, sym, ap, subst, refl, ℕ, zero, suc, ◌<◌, Option, None, Some, option_map, List, length, get_or, arith}
 use Rattle.geo_sketch.specs.declared.elements.Def.{Def}
 use Rattle.geo_sketch.specs.declared.elements.Element.{Element}
-use Rattle.geo_sketch.specs.Constructions.{Algebra, by_def, by_found, computed, AtNamed}
-use Rattle.geo_sketch.specs.Sketches.{numbered, Rises}
-use Rattle.geo_sketch.specs.Tables.{IsLive, IsConstruction}
+use Rattle.geo_sketch.specs.Constructions.{Algebra, by_def, by_found, computed, AtNamed, IsConstruction}
+use Rattle.geo_sketch.specs.Lookups.{numbered, Rises, IsLive}
 use Rattle.geo_sketch.proofs.ConstructionLaws.{at_named, computed_step}
-use Rattle.geo_sketch.proofs.NumberLaws.{def_numbered}
 use Rattle.geo_sketch.proofs.TableLaws.{built, number_at}
 
 -- what stands in a list of elements is live
@@ -15,7 +14,7 @@ live_at es fs i x rising same within = rw same (get_or es i x, (number_at 0 es i
 
 module _ (es : List Element) (c : IsConstruction es) where
   step_by : {X : Type 0} (A : Algebra X) (n : ℕ) (o : Option Element) → numbered es n ≡ o → computed A es n ≡ by_found A n (option_map (λ (e : Element). e.def) o) (computed A es)
-  step_by A n o q = computed_step A es c.rising (built es c) n ∙ ap (λ (d : Option Def). by_found A n d (computed A es)) (def_numbered es n ∙ ap (option_map (λ (e : Element). e.def)) q)
+  step_by A n o q = computed_step A es c.rising (built es c) n ∙ ap (λ (d : Option Def). by_found A n d (computed A es)) (ap (option_map (λ (e : Element). e.def)) q)
 
   -- the value of a live element is what its definition makes of all values
   pub live_step : {X : Type 0} (A : Algebra X) (n : ℕ) (e : Element) → numbered es n ≡ Some e → computed A es n ≡ by_def A n e.def (computed A es)

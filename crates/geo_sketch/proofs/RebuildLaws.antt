@@ -17,15 +17,16 @@ use Rattle.geo_sketch.specs.declared.elements.Setting.{Setting}
 use Rattle.geo_sketch.specs.declared.elements.Setting.TheVariants as setting
 use Rattle.geo_sketch.specs.declared.elements.Element.{Element}
 use Rattle.geo_sketch.specs.Assignments.{setting_of}
-use Rattle.geo_sketch.specs.Heights.{height_limit, new_height, IsTall}
-use Rattle.geo_sketch.specs.Sketches.{numbered, kind_at, other, Rises, Refers, IsDefined, IsEntry, IsSketch, element_parameters, parameter_count, values_in, element_limit, parameter_limit, number_limit}
+use Rattle.geo_sketch.specs.PlainHeights.{height_limit, new_plain_height, IsTall}
+use Rattle.geo_sketch.specs.Sketches.{other, Refers, IsDefined, IsEntry, IsSketch, element_parameters, parameter_count, values_in, element_limit, parameter_limit, number_limit}
+use Rattle.geo_sketch.specs.Lookups.{numbered, kind_at, Rises}
 use Rattle.geo_sketch.specs.Additions.{same_kind}
 use Rattle.geo_sketch.specs.Names.{name_of}
-use Rattle.geo_sketch.specs.Tables.{IsConstruction}
+use Rattle.geo_sketch.specs.Constructions.{IsConstruction}
 use Rattle.geo_sketch.specs.Rebuilding.{number_name, listed, AreSound, zeros, settings_from}
 use Rattle.geo_sketch.specs.Followers.{are_below, has_kind, can_refer, is_small, can_be_defined, has_room, can_follow}
-use Rattle.geo_sketch.proofs.AdditionLaws.{rises_more, defined_stays, not_given, height_stays, height_own}
-use Rattle.geo_sketch.proofs.HeightLaws.{named}
+use Rattle.geo_sketch.proofs.AdditionLaws.{rises_more, defined_stays, not_given, plain_height_stays, plain_height_own}
+use Rattle.geo_sketch.proofs.SketchLaws.{named}
 use Rattle.geo_sketch.proofs.NumberLaws.{number_found, found_from, found_stays, none_below, others_same, last_found}
 
 -- ---- tests
@@ -121,15 +122,15 @@ module _ (es : List Element) (x : Element) where
 
   followed : AreSound es → can_follow es x.number x.kind x.def ≡ true → AreSound (es ++ x ∷ [])
   followed sound h =
-      let below = (decides_and (are_below es x.number) (has_room es x.number x.def && (can_be_defined es x.number x.kind x.def && nat_le (new_height es x.number x.def) height_limit)) (λ t. t, λ t. t) (λ t. t, λ t. t)).0 h in
-      let rooms = (decides_and (has_room es x.number x.def) (can_be_defined es x.number x.kind x.def && nat_le (new_height es x.number x.def) height_limit) (decides_room es x.number x.def) (λ t. t, λ t. t)).0 below.1 in
-      let fits = (decides_and (can_be_defined es x.number x.kind x.def) (nat_le (new_height es x.number x.def) height_limit) (decides_defined es x.number x.kind x.def) (decides_le (new_height es x.number x.def) height_limit)).0 rooms.1 in
+      let below = (decides_and (are_below es x.number) (has_room es x.number x.def && (can_be_defined es x.number x.kind x.def && nat_le (new_plain_height es x.number x.def) height_limit)) (λ t. t, λ t. t) (λ t. t, λ t. t)).0 h in
+      let rooms = (decides_and (has_room es x.number x.def) (can_be_defined es x.number x.kind x.def && nat_le (new_plain_height es x.number x.def) height_limit) (decides_room es x.number x.def) (λ t. t, λ t. t)).0 below.1 in
+      let fits = (decides_and (can_be_defined es x.number x.kind x.def) (nat_le (new_plain_height es x.number x.def) height_limit) (decides_defined es x.number x.kind x.def) (decides_le (new_plain_height es x.number x.def) height_limit)).0 rooms.1 in
       let none = not_given es x.number (below_found es x.number below.0) in
       record {
         rising = rises_more 0 es x sound.rising (omega arith) (below_found es x.number below.0);
         numbers_room = one_more (λ n e. n < number_limit) none sound.numbers_room rooms.0.0;
         defined = one_more (λ n e. IsDefined (es ++ x ∷ []) e.number e.kind e.def) none (λ n e q. defined_stays es (x ∷ []) e.number e.kind e.def (sound.defined n e q)) (defined_stays es (x ∷ []) x.number x.kind x.def fits.0);
-        low = one_more (λ n e. ¬ IsTall (es ++ x ∷ []) n) none (λ n e q. rw (height_stays es x n (λ p. absurd (omega (arith, p, below_found es x.number below.0 n e q)))) (sound.low n e q)) (λ tall. absurd (omega (arith, fits.1, height_own es x, tall)));
+        low = one_more (λ n e. ¬ IsTall (es ++ x ∷ []) n) none (λ n e q. rw (plain_height_stays es x n (λ p. absurd (omega (arith, p, below_found es x.number below.0 n e q)))) (sound.low n e q)) (λ tall. absurd (omega (arith, fits.1, plain_height_own es x, tall)));
         elements_room = omega (arith, rooms.0.1.0, length-append es (x ∷ []));
         parameters_room = omega (arith, rooms.0.1.1, sum_by-append element_parameters es (x ∷ []));
       }
@@ -139,8 +140,8 @@ module _ (es : List Element) (x : Element) where
       let below = rises_below 0 es x sound.rising in
       let found = last_found es x (not_given es x.number (below_found es x.number below)) in
       let short = sound.low x.number x found in
-      let low : new_height es x.number x.def ≤ height_limit = omega (arith, height_own es x) in
-      let fits = (decides_and (can_be_defined es x.number x.kind x.def) (nat_le (new_height es x.number x.def) height_limit) (decides_defined es x.number x.kind x.def) (decides_le (new_height es x.number x.def) height_limit)).1 (defined_before x.number x.kind x.def (omega arith) (sound.defined x.number x found), low) in
+      let low : new_plain_height es x.number x.def ≤ height_limit = omega (arith, plain_height_own es x) in
+      let fits = (decides_and (can_be_defined es x.number x.kind x.def) (nat_le (new_plain_height es x.number x.def) height_limit) (decides_defined es x.number x.kind x.def) (decides_le (new_plain_height es x.number x.def) height_limit)).1 (defined_before x.number x.kind x.def (omega arith) (sound.defined x.number x found), low) in
       let rooms = (decides_room es x.number x.def).1 (sound.numbers_room x.number x found, (omega (arith, sound.elements_room, length-append es (x ∷ [])), omega (arith, sound.parameters_room, sum_by-append element_parameters es (x ∷ [])))) in
       rw (below, rooms) fits
 
@@ -153,7 +154,7 @@ module _ (es : List Element) (x : Element) where
         rising = rises_front 0 es (x ∷ []) sound.rising;
         numbers_room = λ n e q. sound.numbers_room n e (stays n e q);
         defined = λ n e q. defined_before e.number e.kind e.def (omega (arith, number_found es n e q, below_found es x.number below n e q)) (sound.defined n e (stays n e q));
-        low = λ n e q. rw (← (height_stays es x n (λ p. absurd (omega (arith, p, below_found es x.number below n e q))))) (sound.low n e (stays n e q));
+        low = λ n e q. rw (← (plain_height_stays es x n (λ p. absurd (omega (arith, p, below_found es x.number below n e q))))) (sound.low n e (stays n e q));
         elements_room = omega (arith, sound.elements_room, length-append es (x ∷ []));
         parameters_room = omega (arith, sound.parameters_room, sum_by-append element_parameters es (x ∷ []));
       }

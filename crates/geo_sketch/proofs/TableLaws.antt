@@ -1,15 +1,16 @@
 -- A table of what is computed for each element is filled from the front.
+-- lemmas for other crates
 use Rattle.std.proofs.Common.{◌≡◌, ◌∙◌, sym, ap, subst, refl, inl, inr, ℕ, zero, suc, ◌+◌, ◌<◌, ◌≤◌, ◌==◌, if◌then◌else◌, Option, None, Some, option_map, List, [], ◌∷◌, length, get_or, arith}
 use Rattle.std.specs.Prelude.{slice_set}
 use Rattle.std.proofs.lemmas.Bool.{cond_both, cases_eq, eqb-true, eqb-false, ne_eqb}
 use Rattle.std.proofs.lemmas.List.{get_or-set_same, get_or-set_other}
 use Rattle.geo_sketch.specs.declared.elements.Def.{Def}
 use Rattle.geo_sketch.specs.declared.elements.Element.{Element}
-use Rattle.geo_sketch.specs.Constructions.{Algebra, by_def, computed, def_at, AtNamed, IsBuilt}
-use Rattle.geo_sketch.specs.Sketches.{numbered, Rises}
-use Rattle.geo_sketch.specs.Tables.{place, Filled, IsLive, IsConstruction}
+use Rattle.geo_sketch.specs.Constructions.{Algebra, by_def, computed, AtNamed, IsBuilt, IsConstruction}
+use Rattle.geo_sketch.specs.Lookups.{numbered, Rises, IsLive}
+use Rattle.geo_sketch.specs.Tables.{place, Filled}
 use Rattle.geo_sketch.proofs.ConstructionLaws.{at_named, by_def_same, computed_step}
-use Rattle.geo_sketch.proofs.NumberLaws.{number_found, found_from, def_numbered}
+use Rattle.geo_sketch.proofs.NumberLaws.{number_found, found_from, def_found}
 
 pub place_within : (es : List Element) (n : ℕ) (e : Element) → numbered es n ≡ Some e → place es n < length es
 place_within [] n e h = cc
@@ -53,7 +54,7 @@ number_at low (x ∷ es) (suc i) d r h =
     (rw apart there.0, rw apart (ap suc there.1), omega (arith, there.2, r.0))
 
 pub built : (es : List Element) → IsConstruction es → IsBuilt es
-built es c n d h = by_found (numbered es n) refl (sym (def_numbered es n) ∙ h)
+built es c n d h = by_found (numbered es n) refl h
   where
     by_found : (o : Option Element) → numbered es n ≡ o → option_map (λ e. e.def) o ≡ Some d → AtNamed d (λ k. k < n)
     by_found None q g = cc
@@ -65,7 +66,7 @@ built es c n d h = by_found (numbered es n) refl (sym (def_numbered es n) ∙ h)
 pub value_here : {X : Type 0} (A : Algebra X) (es : List Element) (d : X) (table : List X) (i n : ℕ) (e : Element) → IsConstruction es → Filled A es d table i → numbered es n ≡ Some e → place es n ≤ i → by_def A e.number e.def (λ k. get_or table (place es k) d) ≡ computed A es n
 value_here A es d table i n e c filled found within =
     let own : e.number ≡ n = number_found es n e found in
-    let here : def_at es n ≡ Some e.def = def_numbered es n ∙ ap (option_map (λ (x : Element). x.def)) found in
+    let here = def_found es n e found in
     by_def_same A e.number e.def (λ k. get_or table (place es k) d) (computed A es) (at_named (λ k. (k < n) × IsLive es k) _ e.def (λ k p. filled k p.1.0 p.1.1 (omega (arith, place_before 0 es k n p.1.0 e c.rising p.1.1 found p.0))) (c.named n e found))
     ∙ rw own (sym (computed_step A es c.rising (built es c) n ∙ rw here refl))
 

@@ -1,18 +1,22 @@
 -- What is computed for an element is fixed by the definitions of all that it depends
 -- on, and by what the algebra makes of those.
-use Rattle.std.proofs.Common.{◌≡◌, ◌≢◌, ◌∙◌, sym, ap, refl, ℕ, zero, suc, ◌+◌, ◌<◌, ◌==◌, Bool, true, false, Option, None, Some, List, ◌*◌, ℤ, pos, max, arith}
+-- lemmas for other crates
+use Rattle.std.proofs.Common.{◌≡◌, ◌≢◌, ◌∙◌, sym, ap, refl, ℕ, zero, suc, ◌<◌, ◌==◌, Bool, true, false, Option, None, Some, List, ℤ, pos, max, arith}
 use Rattle.std.specs.Prelude.{◌||◌}
 use Rattle.std.proofs.lemmas.Bool.{eq-eqb, ne_eqb}
 use Rattle.geo_triple.specs.declared.Triple.{Triple}
 use Rattle.geo_triple.specs.Triple.{blend_of, cut_of}
 use Rattle.geo_triple.specs.Height.{blend_height, cut_height}
+use Rattle.geo_triple.specs.Sums.{Sizes, of_sizes}
 use Rattle.geo_sketch.specs.declared.elements.Def.{Def}
 use Rattle.geo_sketch.specs.declared.elements.Def.TheVariants.{Free, Fixed, Cut, Blend, Cross}
 use Rattle.geo_sketch.specs.declared.elements.Element.{Element}
-use Rattle.geo_sketch.specs.Constructions.{Algebra, AgreeAt, by_def, computed, def_at, by_found, AtNamed, IsBuilt}
-use Rattle.geo_sketch.specs.Heights.{height_algebra}
+use Rattle.geo_sketch.specs.Constructions.{Algebra, AgreeAt, by_def, computed, by_found, AtNamed, IsBuilt}
+use Rattle.geo_sketch.specs.Lookups.{def_at, Rises}
+use Rattle.geo_sketch.specs.Assignments.{first_parameter, second_parameter}
+use Rattle.geo_sketch.specs.Heights.{heights_algebra, cut_heights, blend_heights}
+use Rattle.geo_sketch.specs.PlainHeights.{plain_height_algebra}
 use Rattle.geo_sketch.specs.Triples.{triple_algebra, of_coordinates}
-use Rattle.geo_sketch.specs.Sketches.{Rises}
 use Rattle.geo_sketch.specs.Dependence.{depends_algebra, depends_on}
 use Rattle.geo_sketch.proofs.ConstructionLaws.{both_named, by_def_same, computed_step}
 
@@ -34,7 +38,7 @@ own n (Some (Blend k m)) f = or_left (n == n) (f k || f m) (eq-eqb n n refl)
 own n (Some (Cross k m)) f = or_left (n == n) (f k || f m) (eq-eqb n n refl)
 
 -- what a named element depends on, the definition depends on
-depends_named : (d : Def) (n : ℕ) (f : ℕ → ℕ → Bool) (P : ℕ → Type 0) → ((on : ℕ) → by_def (depends_algebra on) n d (f on) ≡ true → P on) → AtNamed d (λ k. (on : ℕ) → f on k ≡ true → P on)
+pub depends_named : (d : Def) (n : ℕ) (f : ℕ → ℕ → Bool) (P : ℕ → Type 0) → ((on : ℕ) → by_def (depends_algebra on) n d (f on) ≡ true → P on) → AtNamed d (λ k. (on : ℕ) → f on k ≡ true → P on)
 depends_named Free n f P h = tt
 depends_named (Fixed a b c) n f P h = tt
 depends_named (Cut k) n f P h = λ on g. h on (or_right (n == on) (f on k) g)
@@ -93,9 +97,9 @@ module _ (es : List Element) (rising : Rises 0 es) (built : IsBuilt es) where
 pub agree_itself : {X : Type 0} (A : Algebra X) (n : ℕ) → AgreeAt A A n
 agree_itself A n = (refl, λ d f. refl)
 
--- where two assignments agree on the parameters of element n, so do the triples that
--- they make of it, and the heights
-pub triples_agree : (v w : ℕ → ℤ) (n : ℕ) → v (2 * n) ≡ w (2 * n) → v (2 * n + 1) ≡ w (2 * n + 1) → AgreeAt (triple_algebra v) (triple_algebra w) n
+-- where two assignments agree on the parameters of element n, so do the triples, the
+-- heights and the plain heights that they make of it
+pub triples_agree : (v w : ℕ → ℤ) (n : ℕ) → v (first_parameter n) ≡ w (first_parameter n) → v (second_parameter n) ≡ w (second_parameter n) → AgreeAt (triple_algebra v) (triple_algebra w) n
 triples_agree v w n h g = (refl, by_definition)
   where
     by_definition : (d : Def) (f : ℕ → Triple) → by_def (triple_algebra v) n d f ≡ by_def (triple_algebra w) n d f
@@ -105,10 +109,20 @@ triples_agree v w n h g = (refl, by_definition)
     by_definition (Blend k m) f = ap (blend_of (f k) (f m)) h
     by_definition (Cross k m) f = refl
 
-pub heights_agree : (v w : ℕ → ℕ) (n : ℕ) → v (2 * n) ≡ w (2 * n) → v (2 * n + 1) ≡ w (2 * n + 1) → AgreeAt (height_algebra v) (height_algebra w) n
+pub heights_agree : (v w : ℕ → ℕ) (n : ℕ) → v (first_parameter n) ≡ w (first_parameter n) → v (second_parameter n) ≡ w (second_parameter n) → AgreeAt (heights_algebra v) (heights_algebra w) n
 heights_agree v w n h g = (refl, by_definition)
   where
-    by_definition : (d : Def) (f : ℕ → ℕ) → by_def (height_algebra v) n d f ≡ by_def (height_algebra w) n d f
+    by_definition : (d : Def) (f : ℕ → Sizes) → by_def (heights_algebra v) n d f ≡ by_def (heights_algebra w) n d f
+    by_definition Free f = λ i. of_sizes (max 1 (h i)) (max 1 (g i)) 1
+    by_definition (Fixed a b c) f = refl
+    by_definition (Cut k) f = ap (cut_heights (f k)) h
+    by_definition (Blend k m) f = ap (blend_heights (f k) (f m)) h
+    by_definition (Cross k m) f = refl
+
+pub plain_heights_agree : (v w : ℕ → ℕ) (n : ℕ) → v (first_parameter n) ≡ w (first_parameter n) → v (second_parameter n) ≡ w (second_parameter n) → AgreeAt (plain_height_algebra v) (plain_height_algebra w) n
+plain_heights_agree v w n h g = (refl, by_definition)
+  where
+    by_definition : (d : Def) (f : ℕ → ℕ) → by_def (plain_height_algebra v) n d f ≡ by_def (plain_height_algebra w) n d f
     by_definition Free f = λ i. max 1 (max (h i) (g i))
     by_definition (Fixed a b c) f = refl
     by_definition (Cut k) f = ap (cut_height (f k)) h

@@ -1,7 +1,6 @@
 -- What an addition makes, or the first refusal that applies: taken, unknown, kind,
 -- zero, full, tall, in this order.
-use Rattle.std.specs.Prelude.{ℕ, ◌+◌, ◌&&◌, ◌||◌, nat_eq, nat_lt, if◌then◌else◌, Bool, true, false, unsigned_abs, Option, None, Some, option_map, Result, Ok, Err, List, [], ◌∷◌, length, sum_by}
-use Rattle.std.specs.Str.{bytes_eq}
+use Rattle.std.specs.Prelude.{ℕ, ◌+◌, ◌&&◌, ◌||◌, nat_eq, nat_lt, if◌then◌else◌, Bool, true, false, unsigned_abs, Option, None, Some, Result, Ok, Err, List, length, sum_by}
 use Rattle.geo_sketch.specs.declared.elements.Kind.{Kind}
 use Rattle.geo_sketch.specs.declared.elements.Kind.TheVariants.{Point, Line}
 use Rattle.geo_sketch.specs.declared.elements.Def.{Def}
@@ -15,17 +14,9 @@ use Rattle.geo_sketch.specs.declared.changes.Delta.{Delta}
 use Rattle.geo_sketch.specs.declared.changes.Delta.TheVariants as delta
 use Rattle.geo_sketch.specs.declared.changes.Refusal.{Refusal}
 use Rattle.geo_sketch.specs.declared.changes.Refusal.TheVariants as refusal
-use Rattle.geo_sketch.specs.Heights.{new_height, height_limit}
+use Rattle.geo_sketch.specs.Lookups.{find_named}
+use Rattle.geo_sketch.specs.PlainHeights.{new_plain_height, height_limit}
 use Rattle.geo_sketch.specs.Sketches.{Drawing, other, next_number, element_limit, parameter_limit, number_limit, parameter_count, element_parameters, IsSmall}
-
--- the element with this name
-abbrev pub find_named : List Element → List ℕ → Option Element
-find_named [] name = None
-find_named (e ∷ es) name = if bytes_eq e.name name then Some e else find_named es name
-
--- the number of the element with this name
-abbrev pub number_named : List Element → List ℕ → Option ℕ
-number_named es name = option_map (λ e. e.number) (find_named es name)
 
 abbrev pub same_kind : Kind → Kind → Bool
 same_kind Point Point = true
@@ -66,14 +57,14 @@ first_setting_of (spec.Cut k t) = setting.One t
 first_setting_of (spec.Blend k m t) = setting.One t
 first_setting_of (spec.Cross k m) = setting.None
 
--- one more element with this definition would pass 40 live elements, 24 live
+-- one more element with this definition would pass 64 live elements, 24 live
 -- parameters or the number 999
 abbrev pub is_full : Drawing → Def → Bool
 is_full drawing d = nat_lt element_limit (length drawing.elements + 1) || (nat_lt parameter_limit (sum_by element_parameters drawing.elements + parameter_count d) || nat_lt number_limit (next_number drawing + 1))
 
 -- the new element would be tall
 abbrev pub would_be_tall : Drawing → Def → Bool
-would_be_tall drawing d = nat_lt height_limit (new_height drawing.elements (next_number drawing) d)
+would_be_tall drawing d = nat_lt height_limit (new_plain_height drawing.elements (next_number drawing) d)
 
 abbrev pub new_element : Drawing → List ℕ → Kind → Def → Element
 new_element drawing name kind d = record { number = next_number drawing; name = name; kind = kind; def = d }

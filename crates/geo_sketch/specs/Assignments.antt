@@ -1,8 +1,19 @@
--- Assignments of whole numbers to parameters, and the current one of a sketch.
-use Rattle.std.specs.Prelude.{ℕ, ◌/◌, ◌%◌, ◌==◌, if◌then◌else◌, ℤ, pos, unsigned_abs, List, [], ◌∷◌, slice_index_or}
+-- Parameters, assignments of whole numbers to them, and the current one of a sketch.
+use Rattle.std.specs.Prelude.{ℕ, ◌+◌, ◌*◌, ◌/◌, ◌==◌, if◌then◌else◌, ℤ, pos, unsigned_abs, List, [], ◌∷◌, slice_index_or}
 use Rattle.geo_sketch.specs.declared.elements.Setting.{Setting}
 use Rattle.geo_sketch.specs.declared.elements.Setting.TheVariants as setting
 
+-- ---- the parameters of element n, as far as it has them, and the element of a parameter
+abbrev pub first_parameter : ℕ → ℕ
+first_parameter n = 2 * n
+
+abbrev pub second_parameter : ℕ → ℕ
+second_parameter n = 2 * n + 1
+
+abbrev pub element_of_parameter : ℕ → ℕ
+element_of_parameter p = p / 2
+
+-- ---- assignments
 -- a finite map from parameters to whole numbers; a parameter without an entry is 0
 abbrev pub assignment_of : List (ℕ × ℤ) → ℕ → ℤ
 assignment_of [] p = pos 0
@@ -23,9 +34,9 @@ second_value setting.None = pos 0
 second_value (setting.One t) = pos 0
 second_value (setting.Two x y) = y
 
--- parameters 2n and 2n + 1 are those of element n
+-- the current value of a parameter
 abbrev pub current : List Setting → ℕ → ℤ
-current ss p = if p % 2 == 0 then first_value (setting_of ss (p / 2)) else second_value (setting_of ss (p / 2))
+current ss p = if p == first_parameter (element_of_parameter p) then first_value (setting_of ss (element_of_parameter p)) else second_value (setting_of ss (element_of_parameter p))
 
 -- the absolute value of each parameter, as its magnitude
 abbrev pub magnitudes : (ℕ → ℤ) → ℕ → ℕ

@@ -5,7 +5,8 @@ use Rattle.geo_sketch.specs.declared.elements.Element.{Element}
 use Rattle.geo_sketch.specs.declared.changes.Delta.{Delta}
 use Rattle.geo_sketch.specs.declared.changes.Delta.TheVariants.{Added, Dropped, Dragged, Claimed, Dual}
 use Rattle.geo_sketch.specs.Assignments.{setting_of}
-use Rattle.geo_sketch.specs.Sketches.{Drawing, blank, next_number, numbered, other, values_in, IsDrawn}
+use Rattle.geo_sketch.specs.Sketches.{Drawing, blank, next_number, other, values_in, IsDrawn}
+use Rattle.geo_sketch.specs.Lookups.{numbered}
 
 -- the elements but the one with number n
 abbrev pub without : List Element → ℕ → List Element

@@ -13,7 +13,8 @@ use Rattle.geo_sketch.specs.declared.changes.Delta.TheVariants as delta
 use Rattle.geo_sketch.specs.declared.changes.Refusal.{Refusal}
 use Rattle.geo_sketch.specs.declared.changes.Refusal.TheVariants as refusal
 use Rattle.geo_sketch.specs.Sketches.{Drawing, claim_limit}
-use Rattle.geo_sketch.specs.Additions.{find_named, same_kind}
+use Rattle.geo_sketch.specs.Additions.{same_kind}
+use Rattle.geo_sketch.specs.Lookups.{find_named}
 
 -- ---- what is said, with the numbers in the order of saying: unknown or kind
 abbrev pub null_meant : Option Element → Result Statement Refusal

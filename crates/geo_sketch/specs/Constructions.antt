@@ -4,6 +4,7 @@ use Rattle.std.specs.Prelude.{◌≡◌, ℕ, ℤ, ◌<◌, ◌==◌, if◌then�
 use Rattle.geo_sketch.specs.declared.elements.Def.{Def}
 use Rattle.geo_sketch.specs.declared.elements.Def.TheVariants.{Free, Fixed, Cut, Blend, Cross}
 use Rattle.geo_sketch.specs.declared.elements.Element.{Element}
+use Rattle.geo_sketch.specs.Lookups.{numbered, def_at, IsLive, Rises}
 
 -- what is computed by each definition; each case is told the element's number,
 -- and absent is for a number that no element has
@@ -33,11 +34,7 @@ abbrev pub computed : {X : Type 0} → Algebra X → List Element → ℕ → X
 computed A es n = along A (reverse es) n
 
 -- ---- the textbook equation, which is a law
--- the definition of element n
-abbrev pub def_at : List Element → ℕ → Option Def
-def_at [] n = None
-def_at (e ∷ es) n = if e.number == n then Some e.def else def_at es n
-
+-- for element n, by its definition where it has one
 abbrev pub by_found : {X : Type 0} → Algebra X → ℕ → Option Def → (ℕ → X) → X
 by_found A n None earlier = A.absent n
 by_found A n (Some d) earlier = by_def A n d earlier
@@ -56,6 +53,11 @@ AtNamed (Fixed a b c) P = Unit {0}
 AtNamed (Cut k) P = P k
 AtNamed (Blend k m) P = P k × P m
 AtNamed (Cross k m) P = P k × P m
+
+-- numbers rise, and each definition names earlier elements of the list
+pub record IsConstruction (es : List Element) : Type 0 where
+  pub rising : Rises 0 es
+  pub named : (n : ℕ) (e : Element) → numbered es n ≡ Some e → AtNamed e.def (λ k. (k < n) × IsLive es k)
 
 -- each definition names smaller numbers alone
 abbrev pub IsBuilt : List Element → Type 0

@@ -1,8 +1,10 @@
 -- Which elements an element depends on: itself, and what the elements that its
 -- definition names depend on.
-use Rattle.std.specs.Prelude.{◌≡◌, ℕ, ◌+◌, ◌*◌, ◌==◌, ◌||◌, Bool, true, List}
+use Rattle.std.specs.Prelude.{◌≡◌, ℕ, ◌==◌, ◌||◌, Bool, true, List}
 use Rattle.geo_sketch.specs.declared.elements.Element.{Element}
-use Rattle.geo_sketch.specs.Constructions.{Algebra, computed, def_at}
+use Rattle.geo_sketch.specs.Assignments.{first_parameter, second_parameter}
+use Rattle.geo_sketch.specs.Constructions.{Algebra, computed}
+use Rattle.geo_sketch.specs.Lookups.{def_at}
 
 abbrev pub depends_algebra : ℕ → Algebra Bool
 depends_algebra on = record {
@@ -21,4 +23,4 @@ depends_on es n on = computed (depends_algebra on) es n
 -- two lists, with values of the parameters, agree on the definitions of all that
 -- element n depends on and on the parameters of these
 abbrev pub AgreeFor : {X : Type 0} → List Element → List Element → (ℕ → X) → (ℕ → X) → ℕ → Type 0
-AgreeFor es fs v w n = (on : ℕ) → depends_on es n on ≡ true → (def_at es on ≡ def_at fs on) × (v (2 * on) ≡ w (2 * on)) × (v (2 * on + 1) ≡ w (2 * on + 1))
+AgreeFor es fs v w n = (on : ℕ) → depends_on es n on ≡ true → (def_at es on ≡ def_at fs on) × (v (first_parameter on) ≡ w (first_parameter on)) × (v (second_parameter on) ≡ w (second_parameter on))

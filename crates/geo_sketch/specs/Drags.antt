@@ -9,7 +9,7 @@ use Rattle.geo_sketch.specs.declared.changes.Refusal.{Refusal}
 use Rattle.geo_sketch.specs.declared.changes.Refusal.TheVariants as refusal
 use Rattle.geo_sketch.specs.Assignments.{setting_of}
 use Rattle.geo_sketch.specs.Sketches.{Drawing, parameter_count, values_in}
-use Rattle.geo_sketch.specs.Additions.{find_named}
+use Rattle.geo_sketch.specs.Lookups.{find_named}
 
 -- an element with this definition has no parameters, or another number of them
 abbrev pub is_fixed_for : Def → Setting → Bool

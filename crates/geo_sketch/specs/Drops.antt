@@ -11,7 +11,7 @@ use Rattle.geo_sketch.specs.declared.changes.Refusal.{Refusal}
 use Rattle.geo_sketch.specs.declared.changes.Refusal.TheVariants as refusal
 use Rattle.geo_sketch.specs.Assignments.{setting_of}
 use Rattle.geo_sketch.specs.Sketches.{Drawing}
-use Rattle.geo_sketch.specs.Additions.{find_named}
+use Rattle.geo_sketch.specs.Lookups.{find_named}
 
 -- the definition names element n
 abbrev pub refers_to : Def → ℕ → Bool

@@ -1,11 +1,14 @@
--- Whether an entry can follow a list of elements that is sound so far.
-use Rattle.std.specs.Prelude.{ℕ, ◌+◌, ◌&&◌, nat_eq, nat_le, nat_lt, if◌then◌else◌, Bool, true, false, ℤ, unsigned_abs, Option, None, Some, List, [], ◌∷◌, length, sum_by}
+-- Whether an entry can follow a list of elements that is sound so far, computed. So
+-- `Refers`, `IsSmall` and `IsDefined` stand here a second time, each as the test that
+-- decides it: contracts are read by the facts, and what is computed needs tests.
+use Rattle.std.specs.Prelude.{ℕ, ◌+◌, ◌&&◌, nat_eq, nat_le, nat_lt, if◌then◌else◌, Bool, true, false, ℤ, unsigned_abs, Option, None, Some, List, [], ◌∷◌, ◌++◌, length, sum_by}
 use Rattle.geo_sketch.specs.declared.elements.Kind.{Kind}
 use Rattle.geo_sketch.specs.declared.elements.Def.{Def}
 use Rattle.geo_sketch.specs.declared.elements.Def.TheVariants.{Free, Fixed, Cut, Blend, Cross}
 use Rattle.geo_sketch.specs.declared.elements.Element.{Element}
-use Rattle.geo_sketch.specs.Heights.{new_height, height_limit}
-use Rattle.geo_sketch.specs.Sketches.{numbered, other, element_parameters, parameter_count, element_limit, parameter_limit, number_limit}
+use Rattle.geo_sketch.specs.PlainHeights.{new_plain_height, height_limit}
+use Rattle.geo_sketch.specs.Sketches.{other, element_parameters, parameter_count, element_limit, parameter_limit, number_limit}
+use Rattle.geo_sketch.specs.Lookups.{numbered}
 use Rattle.geo_sketch.specs.Additions.{same_kind}
 
 -- all numbers are below n
@@ -17,14 +20,15 @@ abbrev pub has_kind : Option Element → Kind → Bool
 has_kind None wanted = false
 has_kind (Some e) wanted = same_kind e.kind wanted
 
--- element n can name element k, which shall have this kind
+-- element n can name element k, which shall have this kind: the test of `Refers`
 abbrev pub can_refer : List Element → ℕ → Kind → ℕ → Bool
 can_refer es n wanted k = nat_lt k n && has_kind (numbered es k) wanted
 
+-- the test of `IsSmall`
 abbrev pub is_small : ℤ → Bool
 is_small z = nat_le (unsigned_abs z) 1000
 
--- element n can have this kind and definition
+-- element n can have this kind and definition: the test of `IsDefined`
 abbrev pub can_be_defined : List Element → ℕ → Kind → Def → Bool
 can_be_defined es n kind Free = true
 can_be_defined es n kind (Fixed a b c) = if nat_eq (unsigned_abs a + unsigned_abs b + unsigned_abs c) 0 then false else (is_small a && (is_small b && is_small c))
@@ -37,4 +41,9 @@ abbrev pub has_room : List Element → ℕ → Def → Bool
 has_room es n d = nat_lt n number_limit && (nat_lt (length es) element_limit && nat_le (sum_by element_parameters es + parameter_count d) parameter_limit)
 
 abbrev pub can_follow : List Element → ℕ → Kind → Def → Bool
-can_follow es n kind d = are_below es n && (has_room es n d && (can_be_defined es n kind d && nat_le (new_height es n d) height_limit))
+can_follow es n kind d = are_below es n && (has_room es n d && (can_be_defined es n kind d && nat_le (new_plain_height es n d) height_limit))
+
+-- each element can follow those that stand before it, the earlier ones first
+abbrev pub can_all_follow : List Element → List Element → Bool
+can_all_follow earlier [] = true
+can_all_follow earlier (e ∷ es) = can_follow earlier e.number e.kind e.def && can_all_follow (earlier ++ e ∷ []) es

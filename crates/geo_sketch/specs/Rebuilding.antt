@@ -1,5 +1,5 @@
 -- The sketch that a list of numbers, kinds and definitions makes, and which lists make one.
-use Rattle.std.specs.Prelude.{◌≡◌, ℕ, ◌+◌, ◌-◌, ◌<◌, ◌≤◌, ◌++◌, pos, Some, List, [], ◌∷◌, length, replicate, sum_by}
+use Rattle.std.specs.Prelude.{◌≡◌, ℕ, ◌+◌, ◌-◌, ◌<◌, ◌≤◌, ◌++◌, if◌then◌else◌, Bool, pos, Option, None, Some, List, [], ◌∷◌, length, map, replicate, sum_by}
 use Rattle.std.specs.Fmt.{decimal}
 use Rattle.geo_sketch.specs.declared.elements.Kind.{Kind}
 use Rattle.geo_sketch.specs.declared.elements.Def.{Def}
@@ -7,8 +7,10 @@ use Rattle.geo_sketch.specs.declared.elements.Def.TheVariants.{Free, Fixed, Cut,
 use Rattle.geo_sketch.specs.declared.elements.Setting.{Setting}
 use Rattle.geo_sketch.specs.declared.elements.Setting.TheVariants as setting
 use Rattle.geo_sketch.specs.declared.elements.Element.{Element}
-use Rattle.geo_sketch.specs.Heights.{IsTall}
-use Rattle.geo_sketch.specs.Sketches.{Drawing, numbered, Rises, IsDefined, element_parameters, element_limit, parameter_limit, number_limit}
+use Rattle.geo_sketch.specs.Followers.{can_all_follow}
+use Rattle.geo_sketch.specs.PlainHeights.{IsTall}
+use Rattle.geo_sketch.specs.Sketches.{Drawing, IsDefined, element_parameters, element_limit, parameter_limit, number_limit}
+use Rattle.geo_sketch.specs.Lookups.{numbered, Rises}
 
 -- the letter e, and the number in decimal
 abbrev pub number_name : ℕ → List ℕ
@@ -21,7 +23,7 @@ listed x = record { number = x.0; name = number_name x.0; kind = x.1; def = x.2 
 -- ---- which elements make a sketch
 -- the numbers rise and are at most 999, each definition names earlier elements of
 -- fitting kinds, fixed triples are not zero and their coordinates lie from -1000 to
--- 1000, no element is tall, and there are at most 40 elements and 24 parameters
+-- 1000, no element is tall, and there are at most 64 elements and 24 parameters
 pub record AreSound (es : List Element) : Type 0 where
   pub rising : Rises 0 es
   pub numbers_room : (n : ℕ) (e : Element) → numbered es n ≡ Some e → n < number_limit
@@ -29,6 +31,10 @@ pub record AreSound (es : List Element) : Type 0 where
   pub low : (n : ℕ) (e : Element) → numbered es n ≡ Some e → ¬ IsTall es n
   pub elements_room : length es ≤ element_limit
   pub parameters_room : sum_by element_parameters es ≤ parameter_limit
+
+-- computed: each can follow those before it
+abbrev pub is_sound : List Element → Bool
+is_sound es = can_all_follow [] es
 
 -- ---- the sketch that they make
 -- every value is 0
@@ -46,3 +52,7 @@ settings_from next (e ∷ es) = replicate (e.number - next) setting.None ++ zero
 
 abbrev pub at_zero : List Element → Drawing
 at_zero es = record { elements = es; settings = settings_from 0 es; claims = [] }
+
+-- the sketch that a list makes, and none where it makes none
+abbrev pub rebuilt : List (ℕ × Kind × Def) → Option Drawing
+rebuilt list = if is_sound (map listed list) then Some (at_zero (map listed list)) else None

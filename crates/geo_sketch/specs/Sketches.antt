@@ -1,5 +1,5 @@
 -- What a sketch holds, and what holds of every sketch.
-use Rattle.std.specs.Prelude.{◌≡◌, ℕ, ◌+◌, ◌<◌, ◌≤◌, ◌==◌, if◌then◌else◌, ℤ, unsigned_abs, Option, None, Some, option_map, List, [], ◌∷◌, length, sum_by}
+use Rattle.std.specs.Prelude.{◌≡◌, ℕ, ◌+◌, ◌<◌, ◌≤◌, ℤ, unsigned_abs, Option, None, Some, List, [], ◌∷◌, length, sum_by}
 use Rattle.geo_sketch.specs.declared.elements.Kind.{Kind}
 use Rattle.geo_sketch.specs.declared.elements.Kind.TheVariants.{Point, Line}
 use Rattle.geo_sketch.specs.declared.elements.Def.{Def}
@@ -10,7 +10,8 @@ use Rattle.geo_sketch.specs.declared.elements.Element.{Element}
 use Rattle.geo_sketch.specs.declared.statements.Statement.{Statement}
 use Rattle.geo_sketch.specs.declared.statements.Statement.TheVariants.{Null, Same, On, Triple}
 use Rattle.geo_sketch.specs.Assignments.{setting_of}
-use Rattle.geo_sketch.specs.Heights.{IsTall}
+use Rattle.geo_sketch.specs.Lookups.{numbered, kind_at, Rises}
+use Rattle.geo_sketch.specs.PlainHeights.{IsTall}
 
 -- the live elements by rising number; the setting of each number that was given,
 -- None where it is not live or has no parameters: a dropped number keeps its place,
@@ -26,7 +27,7 @@ next_number drawing = length drawing.settings
 
 -- ---- limits
 abbrev pub element_limit : ℕ
-element_limit = 40
+element_limit = 64
 
 abbrev pub parameter_limit : ℕ
 parameter_limit = 24
@@ -42,25 +43,11 @@ claim_limit = 60
 abbrev pub blank : Drawing
 blank = record { elements = []; settings = []; claims = [] }
 
--- ---- looking up
--- the live element with number n
-abbrev pub numbered : List Element → ℕ → Option Element
-numbered [] n = None
-numbered (e ∷ es) n = if e.number == n then Some e else numbered es n
-
-abbrev pub kind_at : List Element → ℕ → Option Kind
-kind_at es n = option_map (λ e. e.kind) (numbered es n)
-
 abbrev pub other : Kind → Kind
 other Point = Line
 other Line = Point
 
 -- ---- what holds of every sketch
--- numbers rise strictly, from low on
-abbrev pub Rises : ℕ → List Element → Type 0
-Rises low [] = Unit {0}
-Rises low (e ∷ es) = (low ≤ e.number) × Rises (e.number + 1) es
-
 -- k is a live element of this kind, with a smaller number than n
 abbrev pub Refers : List Element → ℕ → Kind → ℕ → Type 0
 Refers es n kind k = (k < n) × (kind_at es k ≡ Some kind)

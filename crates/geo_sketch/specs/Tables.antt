@@ -1,8 +1,8 @@
 -- Tables of what is computed for each element, in the order of the elements.
 use Rattle.std.specs.Prelude.{◌≡◌, ℕ, ◌<◌, suc, nat_lt, ◌==◌, if◌then◌else◌, List, [], ◌∷◌, Some, slice_index_or}
 use Rattle.geo_sketch.specs.declared.elements.Element.{Element}
-use Rattle.geo_sketch.specs.Constructions.{Algebra, computed, AtNamed}
-use Rattle.geo_sketch.specs.Sketches.{numbered, Rises}
+use Rattle.geo_sketch.specs.Constructions.{Algebra, computed}
+use Rattle.geo_sketch.specs.Lookups.{numbered}
 
 -- how many elements stand before the one with number n
 abbrev pub place : List Element → ℕ → ℕ
@@ -17,11 +17,3 @@ rank (e ∷ es) n = if nat_lt n e.number then 0 else suc (rank es n)
 -- at the first so many places stands what is computed for the element there
 abbrev pub Filled : {X : Type 0} → Algebra X → List Element → X → List X → ℕ → Type 0
 Filled A es d table count = (n : ℕ) (e : Element) → numbered es n ≡ Some e → place es n < count → slice_index_or table (place es n) d ≡ computed A es n
-
-abbrev pub IsLive : List Element → ℕ → Type 0
-IsLive es n = (e : Element) × (numbered es n ≡ Some e)
-
--- numbers rise, and each definition names earlier elements of the list
-pub record IsConstruction (es : List Element) : Type 0 where
-  pub rising : Rises 0 es
-  pub named : (n : ℕ) (e : Element) → numbered es n ≡ Some e → AtNamed e.def (λ k. (k < n) × IsLive es k)

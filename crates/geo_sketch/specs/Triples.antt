@@ -1,13 +1,10 @@
--- The triple of an element, and what a statement says of triples, at an assignment
--- of whole numbers to all parameters.
-use Rattle.std.specs.Prelude.{◌≡◌, ℕ, ◌+◌, ◌*◌, ℤ, pos, List, [], ◌∷◌}
+-- The triple of an element at an assignment of whole numbers to all parameters.
+use Rattle.std.specs.Prelude.{ℕ, ℤ, pos, List}
 use Rattle.geo_triple.specs.declared.Triple.{Triple}
-use Rattle.geo_triple.specs.Triple.{cross_of, dot_of, determinant_of, blend_of, cut_of, zero_triple}
+use Rattle.geo_triple.specs.Triple.{cross_of, blend_of, cut_of, zero_triple}
 use Rattle.geo_sketch.specs.declared.elements.Element.{Element}
-use Rattle.geo_sketch.specs.declared.statements.Statement.{Statement}
-use Rattle.geo_sketch.specs.declared.statements.Statement.TheVariants as statement
 use Rattle.geo_sketch.specs.Constructions.{Algebra, computed}
-use Rattle.geo_sketch.specs.Assignments.{assignment_of}
+use Rattle.geo_sketch.specs.Assignments.{first_parameter, second_parameter}
 
 abbrev pub of_coordinates : ℤ → ℤ → ℤ → Triple
 of_coordinates a b c = record { a = a; b = b; c = c }
@@ -15,33 +12,13 @@ of_coordinates a b c = record { a = a; b = b; c = c }
 abbrev pub triple_algebra : (ℕ → ℤ) → Algebra Triple
 triple_algebra v = record {
   absent = λ n. zero_triple;
-  free = λ n. of_coordinates (v (2 * n)) (v (2 * n + 1)) (pos 1);
+  free = λ n. of_coordinates (v (first_parameter n)) (v (second_parameter n)) (pos 1);
   fixed = λ n a b c. of_coordinates a b c;
-  cut = λ n s. cut_of s (v (2 * n));
-  blend = λ n s t. blend_of s t (v (2 * n));
+  cut = λ n s. cut_of s (v (first_parameter n));
+  blend = λ n s t. blend_of s t (v (first_parameter n));
   cross = λ n s t. cross_of s t;
 }
 
 -- the triple of element n at v
 abbrev pub triple_at : List Element → ℕ → (ℕ → ℤ) → Triple
 triple_at es n v = computed (triple_algebra v) es n
-
--- the coordinates
-abbrev pub coordinates : Triple → List ℤ
-coordinates t = t.a ∷ t.b ∷ t.c ∷ []
-
--- the parts of a statement at v
-abbrev pub parts_at : List Element → Statement → (ℕ → ℤ) → List ℤ
-parts_at es (statement.Null n) v = coordinates (triple_at es n v)
-parts_at es (statement.Same n m) v = coordinates (cross_of (triple_at es n v) (triple_at es m v))
-parts_at es (statement.On n m) v = dot_of (triple_at es n v) (triple_at es m v) ∷ []
-parts_at es (statement.Triple n m k) v = determinant_of (triple_at es n v) (triple_at es m v) (triple_at es k v) ∷ []
-
-abbrev pub AreZero : List ℤ → Type 0
-AreZero [] = Unit {0}
-AreZero (z ∷ zs) = (z ≡ pos 0) × AreZero zs
-
--- the statement holds: its parts are 0 at every assignment. It is said of a
--- statement about live elements; one that names no live element holds by itself
-abbrev pub Holds : List Element → Statement → Type 0
-Holds es s = (entries : List (ℕ × ℤ)) → AreZero (parts_at es s (assignment_of entries))

@@ -1,9 +1,10 @@
 //! What an addition makes, or the first refusal that applies.
 
 ghost use Rattle.std.specs.Prelude.{◌≡◌, ℕ, ◌+◌, ◌≤◌, ◌<◌, length, sum_by, IfOk};
-ghost use Rattle.geo_sketch.specs.Sketches.{parameter_count, element_parameters, other, values_in};
+ghost use Rattle.geo_sketch.specs.Sketches.{element_limit, parameter_count, element_parameters, other, values_in};
 ghost use Rattle.geo_sketch.specs.Drags.{is_fixed_for};
-ghost use Rattle.geo_sketch.specs.Additions.{definition_of, first_setting_of, referred, both_referred, find_named};
+ghost use Rattle.geo_sketch.specs.Additions.{definition_of, first_setting_of, referred, both_referred};
+ghost use Rattle.geo_sketch.specs.Lookups.{find_named};
 
 use crate::changes::Refusal;
 use crate::elements::{Def, Element, Kind, Setting, Spec};
@@ -107,7 +108,7 @@ fn count_values(setting: Setting) -> usize
 
 /// How many parameters the elements have.
 pub(crate) fn count_all_parameters(elements: &[Element]) -> usize
-    requires { length elements.now ≤ 40 }
+    requires { length elements.now ≤ element_limit }
     ensures { result ≡ sum_by element_parameters elements.now }
 {
     let mut count = 0;

@@ -39,6 +39,14 @@ pub enum Refusal {
     Nothing,
     Repeat,
     View,
+    /// An expression that is none.
+    Shape,
+    /// An expression whose numbers could pass 128 bits.
+    Great,
+    /// A premise that is not known to hold.
+    Unproved,
+    /// A side condition that is 0 at all sample positions.
+    Degenerate,
 }
 
 /// There was no memory.

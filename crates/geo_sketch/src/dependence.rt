@@ -1,10 +1,11 @@
 //! Which elements an element depends on.
 
 ghost use Rattle.std.specs.Prelude.{◌≡◌, ◌≤◌, length, false, slice_index_or};
-ghost use Rattle.geo_sketch.specs.Constructions.{by_def};
+ghost use Rattle.geo_sketch.specs.Constructions.{by_def, IsConstruction};
 ghost use Rattle.geo_sketch.specs.Dependence.{depends_algebra, depends_on};
 ghost use Rattle.geo_sketch.specs.Sketches.{element_limit};
-ghost use Rattle.geo_sketch.specs.Tables.{place, IsConstruction, IsLive};
+ghost use Rattle.geo_sketch.specs.Tables.{place};
+ghost use Rattle.geo_sketch.specs.Lookups.{IsLive};
 
 use crate::elements::{Def, Element};
 use crate::limits::ELEMENT_LIMIT;

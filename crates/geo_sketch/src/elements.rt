@@ -44,8 +44,8 @@ pub enum Setting {
     Two(i64, i64),
 }
 
-/// An element: numbers are given from 0 in the order of additions, and element n
-/// has the parameters 2n and 2n + 1 where it is Free, 2n where it is a Cut or a
+/// An element: numbers are given from 0 in the order of additions. It has its first
+/// and its second parameter where it is Free, its first one where it is a Cut or a
 /// Blend, and none otherwise.
 #[derive(Clone, Copy, Debug)]
 pub struct Element {

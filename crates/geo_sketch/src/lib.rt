@@ -8,12 +8,14 @@ mod claims;
 mod dependence;
 mod edits;
 mod elements;
-mod heights;
 mod laws;
 mod limits;
 mod lookups;
 mod names;
-mod plain;
+mod parameters;
+mod part_laws;
+mod plain_heights;
+mod plain_statements;
 mod rebuilding;
 mod references;
 mod samples;
@@ -27,8 +29,13 @@ pub use laws::{
     dual_twice, each_by_its_definition, fixed_by_what_it_depends_on, made_by_changes, others_stay,
     plain_statements_hold, taken_back_and_done_again,
 };
+pub use limits::{CLAIM_LIMIT, ELEMENT_LIMIT, HEIGHT_LIMIT, NUMBER_LIMIT, PARAMETER_LIMIT};
 pub use lookups::{find_by_number, place_of};
 pub use names::Name;
+pub use parameters::{element_of_parameter, first_parameter, second_parameter};
+pub use part_laws::{
+    needed_part_by_itself, posing_is_computed, sketches_are_sound, soundness_is_computed,
+};
 pub use samples::sample_value;
 pub use sketches::Sketch;
 pub use statements::{Said, Statement};

@@ -1,13 +1,17 @@
 //! How much a sketch may hold.
 
-/// Live elements.
-pub(crate) const ELEMENT_LIMIT: usize = 40;
+/// Live elements of a sketch, at most.
+pub const ELEMENT_LIMIT: usize = 64;
 
-/// Live parameters.
-pub(crate) const PARAMETER_LIMIT: usize = 24;
+/// Parameters of the live elements, at most.
+pub const PARAMETER_LIMIT: usize = 24;
 
-/// Numbers of elements are below it.
-pub(crate) const NUMBER_LIMIT: usize = 1000;
+/// Numbers of elements are below it, live and dropped ones.
+pub const NUMBER_LIMIT: usize = 1000;
 
-/// Claims.
-pub(crate) const CLAIM_LIMIT: usize = 60;
+/// Claims of a sketch, at most.
+pub const CLAIM_LIMIT: usize = 60;
+
+/// The greatest plain height that an element may have at magnitude 3, and the greatest
+/// height of an element that is shown.
+pub const HEIGHT_LIMIT: u128 = 1 << 41;

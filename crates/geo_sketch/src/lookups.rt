@@ -1,9 +1,7 @@
 //! Looking elements up in a list by rising number.
 
 ghost use Rattle.std.specs.Prelude.{◌≡◌, ◌≤◌, length};
-ghost use Rattle.geo_sketch.specs.Constructions.{def_at};
-ghost use Rattle.geo_sketch.specs.Sketches.{numbered};
-ghost use Rattle.geo_sketch.specs.Additions.{find_named};
+ghost use Rattle.geo_sketch.specs.Lookups.{def_at, numbered, find_named};
 ghost use Rattle.geo_sketch.specs.Tables.{place};
 
 use crate::elements::{Def, Element};
@@ -51,10 +49,5 @@ pub fn place_of(elements: &[Element], number: u32) -> usize
 pub(crate) fn find_def(elements: &[Element], number: u32) -> Option<Def>
     ensures { result ≡ def_at elements.now number }
 {
-    for element in elements {
-        if element.number == number {
-            return Some(element.def);
-        }
-    }
-    None
+    find_by_number(elements, number).map(|element| element.def)
 }

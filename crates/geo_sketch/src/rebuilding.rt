@@ -4,16 +4,17 @@ ghost use Rattle.std.specs.Prelude.{◌≡◌, ◌<◌, ◌++◌, ◌∷◌, [],
 ghost use Rattle.std.specs.Option.{SomeIff};
 ghost use Rattle.geo_sketch.specs.Constructions.{AtNamed};
 ghost use Rattle.geo_sketch.specs.Followers.{are_below, can_be_defined, can_follow, can_refer, has_kind, has_room, is_small};
-ghost use Rattle.geo_sketch.specs.Rebuilding.{at_zero, listed, number_name, settings_from, zeros, AreSound};
-ghost use Rattle.geo_sketch.specs.Sketches.{numbered, number_limit, Rises};
+ghost use Rattle.geo_sketch.specs.Rebuilding.{at_zero, listed, number_name, rebuilt, settings_from, zeros, AreSound};
+ghost use Rattle.geo_sketch.specs.Sketches.{number_limit};
+ghost use Rattle.geo_sketch.specs.Lookups.{numbered, Rises};
 
 use crate::additions::{count_all_parameters, count_parameters, opposite};
 use crate::changes::NoMemory;
 use crate::elements::{Def, Element, Kind, Setting};
-use crate::heights::{HEIGHT_LIMIT, height_of_new};
-use crate::limits::{ELEMENT_LIMIT, NUMBER_LIMIT, PARAMETER_LIMIT};
+use crate::limits::{ELEMENT_LIMIT, HEIGHT_LIMIT, NUMBER_LIMIT, PARAMETER_LIMIT};
 use crate::lookups::find_by_number;
 use crate::names::Name;
+use crate::plain_heights::plain_height_of_new;
 use crate::sketches::Sketch;
 use std::alloc::Global;
 
@@ -22,7 +23,8 @@ impl Sketch {
     /// the list makes no sketch. Element n is named by the letter e and its number, all
     /// values are 0, and there is no claim.
     pub fn rebuild(alloc: Global, list: &[(u32, Kind, Def)]) -> Result<Option<Sketch>, NoMemory>
-        ensures { IfOk result (λ o. SomeIff o (AreSound (map listed list.now)) (at_zero (map listed list.now))) }
+        ensures exactly { IfOk result (λ o. SomeIff o (AreSound (map listed list.now)) (at_zero (map listed list.now))) }
+        ensures computed { IfOk result (λ o. o ≡ rebuilt list.now) }
     {
         let elements = match list_elements(alloc, list) {
             Ok(Some(elements)) => elements,
@@ -85,7 +87,7 @@ fn can_come_next(elements: &[Element], number: u32, kind: Kind, def: &Def) -> bo
     if !is_definable(elements, number, kind, def) {
         return false;
     }
-    height_of_new(elements, number, def) <= HEIGHT_LIMIT
+    plain_height_of_new(elements, number, def) <= HEIGHT_LIMIT
 }
 
 fn has_only_below(elements: &[Element], number: u32) -> bool

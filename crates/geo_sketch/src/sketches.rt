@@ -8,10 +8,10 @@ ghost use Rattle.geo_sketch.specs.Changes.{applied, LeadsFrom, LeadsTo, makes_lo
 ghost use Rattle.geo_sketch.specs.Constructions.{AtNamed};
 ghost use Rattle.geo_sketch.specs.Dependence.{depends_on};
 ghost use Rattle.geo_sketch.specs.Drags.{drag_of};
-ghost use Rattle.geo_sketch.specs.Plain.{is_plain};
+ghost use Rattle.geo_sketch.specs.PlainStatements.{is_plain};
 ghost use Rattle.geo_sketch.specs.Drops.{drop_of, is_used};
-ghost use Rattle.geo_sketch.specs.Tables.{IsLive};
-ghost use Rattle.geo_sketch.specs.Additions.{addition_of, find_named, is_full, would_be_tall, IsSmallSpec, number_named};
+ghost use Rattle.geo_sketch.specs.Lookups.{IsLive, find_named, number_named};
+ghost use Rattle.geo_sketch.specs.Additions.{addition_of, is_full, would_be_tall, IsSmallSpec};
 ghost use Rattle.geo_sketch.specs.declared.changes.Refusal.{Refusal as RefusalWord};
 
 use crate::additions::{count_all_parameters, count_parameters, define, first_setting, is_fixed};
@@ -20,11 +20,11 @@ use crate::claims::{find_meaning, has_claim, order};
 use crate::dependence::find_dependence;
 use crate::edits::{exchange_kinds, put_back, remove_number};
 use crate::elements::{Def, Element, Kind, Setting, Spec};
-use crate::heights::{HEIGHT_LIMIT, height_of_new};
-use crate::limits::{CLAIM_LIMIT, ELEMENT_LIMIT, NUMBER_LIMIT, PARAMETER_LIMIT};
+use crate::limits::{CLAIM_LIMIT, ELEMENT_LIMIT, HEIGHT_LIMIT, NUMBER_LIMIT, PARAMETER_LIMIT};
 use crate::lookups::find_by_name;
 use crate::names::Name;
-use crate::plain::holds_plainly;
+use crate::plain_heights::plain_height_of_new;
+use crate::plain_statements::holds_plainly;
 use crate::references::{any_refers_to, any_speaks_of};
 use crate::statements::{Said, Statement};
 use std::alloc::Global;
@@ -472,7 +472,7 @@ impl Sketch {
         requires { AtNamed def.now (IsLive self.now.elements) }
         ensures { result ≡ would_be_tall self.now def.now }
     {
-        height_of_new(&self.elements, self.settings.len() as u32, def) > HEIGHT_LIMIT
+        plain_height_of_new(&self.elements, self.settings.len() as u32, def) > HEIGHT_LIMIT
     }
 
     /// Whether another element or a claim names the element.

@@ -1,4 +1,5 @@
 pub mod Triples
+pub mod Sums
 pub mod Sizes
 pub mod Readings
 pub mod Divisors

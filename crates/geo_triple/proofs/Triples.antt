@@ -1,4 +1,5 @@
 -- Equations of triples.
+-- lemmas for other crates
 use Rattle.std.proofs.Common.{◌≡◌, ℤ, pos, ◌+ℤ◌, ◌*ℤ◌, neg_ℤ, [], ◌∷◌}
 use Rattle.geo_algebra.proofs.Ring.{ring, reads}
 use Rattle.geo_triple.specs.declared.Triple.{Triple}
@@ -29,6 +30,11 @@ dot-cross_second s t = ring (s.a ∷ s.b ∷ s.c ∷ t.a ∷ t.b ∷ t.c ∷ [])
 pub dot-cut : (s : Triple) (by : ℤ) → dot_of s (cut_of s by) ≡ pos 0
 unfolding cut_of
 dot-cut s by = dot-cross_first s record { a = pos 1; b = pos 0; c = neg_ℤ by }
+
+-- a cut lies on the line that cuts
+pub dot-cut_at : (s : Triple) (by : ℤ) → dot_of record { a = pos 1; b = pos 0; c = neg_ℤ by } (cut_of s by) ≡ pos 0
+unfolding cut_of
+dot-cut_at s by = dot-cross_second s record { a = pos 1; b = pos 0; c = neg_ℤ by }
 
 pub determinant-blend : (s t : Triple) (by : ℤ) → determinant_of (blend_of s t by) s t ≡ pos 0
 unfolding determinant_of blend_of cross_of

@@ -1,3 +1,4 @@
 pub mod Triple
 pub mod Height
+pub mod Sums
 pub mod Primitive

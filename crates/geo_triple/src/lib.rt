@@ -7,14 +7,16 @@ ghost use Rattle.std.specs.Prelude.{◌≡◌};
 mod laws;
 mod products;
 mod reduction;
+mod short;
 mod steps;
 
 pub use laws::{
     cut_in_coordinates, heights_bound_sizes, incidences_by_construction, only_one_primitive,
-    primitive_or_zero,
+    plain_heights_suffice, primitive_or_zero, sums_bound_sizes, sums_grow,
 };
 pub use products::{blend, cross, cut, det, dot};
 pub use reduction::primitive;
+pub use short::{short_blend, short_cross, short_cut, short_det, short_dot};
 pub use steps::Steps;
 
 /// The homogeneous coordinates of a point or a line: the point (x, y) is (x, y, 1), the line
@@ -43,7 +45,7 @@ mod tests {
 
     /// A join, a point on it, a line through a point and a blend, with their primitive triples.
     #[test]
-    #[tactic(auto, unfolding(crate::specs::Triple::size_of))]
+    #[tactic(auto, unfolding(crate::specs::Sums::largest_of, crate::specs::Sums::cross_sums, crate::specs::Sums::blend_sums, crate::specs::Sums::cut_sums))]
     fn elements_as_drawn(rt: HostRuntime) {
         assert!(rt; is_at(cross(&at(0, 0, 1), &at(4, 2, 1)), -2, 4, 0), "join");
         assert!(rt;
@@ -80,12 +82,39 @@ mod tests {
     }
 
     #[test]
-    #[tactic(auto, unfolding(crate::specs::Triple::size_of))]
+    #[tactic(auto, unfolding(crate::specs::Sums::largest_of, crate::specs::Sums::cross_sums, crate::specs::Sums::dot_sum, crate::specs::Sums::determinant_sum))]
     fn incidence(rt: HostRuntime) {
         assert_eq!(rt; dot(&at(2, 1, 1), &at(-2, 4, 0)), 0);
         assert_eq!(rt; dot(&at(3, 4, 1), &at(1, 2, 1)), 12);
         assert_eq!(rt; det(&at(0, 0, 1), &at(4, 2, 1), &at(2, 1, 1)), 0);
         assert_eq!(rt; det(&at(0, 0, 1), &at(1, 0, 1), &at(0, 1, 1)), 1);
         assert_eq!(rt; det(&at(1, 0, 1), &at(0, 0, 1), &at(0, 1, 1)), -1);
+    }
+
+    /// Large coordinates beside zeros: the height rule refuses this cross product.
+    #[test]
+    #[tactic(auto, unfolding(crate::specs::Sums::largest_of, crate::specs::Sums::cross_sums))]
+    fn large_beside_zero(rt: HostRuntime) {
+        assert!(rt; is_at(cross(&at(1 << 122, 0, 0), &at(0, 16, 0)), 0, 0, 1 << 126));
+    }
+
+    #[test]
+    #[tactic(auto, unfolding(crate::specs::Sums::largest_of, crate::specs::Sums::cross_sums, crate::specs::Sums::dot_sum, crate::specs::Sums::determinant_sum, crate::specs::Sums::blend_sums, crate::specs::Sums::cut_sums))]
+    fn by_short_products(rt: HostRuntime) {
+        let s = at(3_000_000_000, -2, 7);
+        let t = at(1_000_000_000, 5, -1);
+        let cross = short_cross(&s, &t);
+        assert!(rt; is_at(cross, -33, 10_000_000_000, 17_000_000_000), "cross");
+        assert_eq!(rt; short_dot(&s, &t), 2_999_999_999_999_999_983);
+        assert_eq!(rt; short_det(&s, &t, &at(1, 0, 0)), -33);
+        assert!(rt;
+            is_at(short_blend(&s, &t, -2), 1_000_000_000, -12, 9),
+            "blend"
+        );
+        assert!(rt; is_at(short_cut(&s, 4), 8, 12_000_000_007, 2), "cut");
+        assert_eq!(rt;
+            short_dot(&at(i64::MAX.into(), 0, 0), &at(-1, 0, 0)),
+            -9_223_372_036_854_775_807
+        );
     }
 }

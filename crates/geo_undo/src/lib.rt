@@ -5,6 +5,8 @@
 mod history;
 mod laws;
 #[cfg(test)]
+mod rebuilding_tests;
+#[cfg(test)]
 mod tests;
 
 pub use history::History;

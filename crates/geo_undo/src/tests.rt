@@ -32,6 +32,17 @@ fn drag_point(
     Ok(())
 }
 
+/// Drops the point with this name.
+fn drop_point(sketch: &mut Sketch, history: &mut History, name: &[u8]) -> Result<(), Fail>
+    requires { sketch.old ≡ made_of history.old.done }
+    ensures { OnOk result (sketch.new ≡ made_of history.new.done) }
+{
+    let name = Name::new(name).ok_or("a name")?;
+    let delta = sketch.drop_element(name)?;
+    history.push(delta)?;
+    Ok(())
+}
+
 #[test]
 fn a_drag_is_undone_and_done_again(rt: HostRuntime) -> Result<(), Fail> {
     let mut sketch = Sketch::new(rt.alloc());
@@ -47,6 +58,26 @@ fn a_drag_is_undone_and_done_again(rt: HostRuntime) -> Result<(), Fail> {
         Err(stop) => assert_eq!(rt; stop, Stop::Refused(Refusal::Nothing)),
         Ok(_) => assert!(rt; false),
     }
+    Ok(())
+}
+
+/// An element between two others comes back to its place, with the values that it had.
+#[test]
+fn a_drop_in_the_middle_is_undone(rt: HostRuntime) -> Result<(), Fail> {
+    let mut sketch = Sketch::new(rt.alloc());
+    let mut history = History::new(rt.alloc());
+    add_point(&mut sketch, &mut history, b"A")?;
+    add_point(&mut sketch, &mut history, b"B")?;
+    add_point(&mut sketch, &mut history, b"C")?;
+    drag_point(&mut sketch, &mut history, b"B", Setting::Two(5, 6))?;
+    drop_point(&mut sketch, &mut history, b"B")?;
+    assert_eq!(rt; sketch.elements().len(), 2);
+    assert_eq!(rt; sketch.setting(1), Setting::None);
+    history.undo(&mut sketch)?;
+    assert_eq!(rt; sketch.elements().len(), 3);
+    assert_eq!(rt; sketch.elements()[1].number, 1);
+    assert_eq!(rt; sketch.elements()[1].name.bytes(), b"B".as_slice());
+    assert_eq!(rt; sketch.setting(1), Setting::Two(5, 6));
     Ok(())
 }
 

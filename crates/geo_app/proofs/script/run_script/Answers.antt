@@ -1,14 +1,14 @@
 use Rattle.std.proofs.Common.{rules, ◌≡◌, ◌||◌, [], ◌∷◌, arith}
 use Rattle.geo_session.specs.Answers.{is_refused}
 use Rattle.geo_io.specs.Lines.{lines_of}
-use Rattle.geo_app.proofs.Progress.{line_done, line_stopped, all_done}
+use Rattle.geo_app.proofs.Progress.{line_done, line_stopped, all_told, all_written}
 use Rattle.geo_app.proofs.script.run_script.Goals as goal
 
 pub returns-in-Err-take_line-clause-front : goal.returns-in-Err-take_line-clause-front
 returns-in-Err-take_line-clause-front g c =
     let cut : lines_of c.loop-line.rest.now ≡ c.in-Some.line.now ∷ lines_of c.in-Some.after.now = search rules in
     let p = c.loop-line.invariant.progress in
-    λ verdict_of right. line_stopped verdict_of p.state c.args.bytes.now c.loop-line.rest.now c.in-Some.line.now c.in-Some.after.now _ _ _ (p.wrote verdict_of right) cut (c.in-Err-take_line.ensures.front p.state p.stands verdict_of right)
+    line_stopped c.args.bytes.now c.loop-line.rest.now c.in-Some.line.now c.in-Some.after.now _ _ _ c.loop-line.session c.loop-line.refused p cut (c.in-Err-take_line.ensures.front p.state p.stands)
 
 pub loop-line-preserved : goal.loop-line-preserved
 loop-line-preserved g c =
@@ -21,9 +21,9 @@ loop-line-preserved g c =
 pub returns-clause-refused : goal.returns-clause-refused
 returns-clause-refused g c =
     let none : c.loop-line.rest.now ≡ [] = search rules in
-    (all_done _ _ _ _ _ _ c.loop-line.invariant.progress none).0
+    all_told _ _ _ _ _ _ c.loop-line.invariant.progress none
 
 pub returns-clause-all : goal.returns-clause-all
 returns-clause-all g c =
     let none : c.loop-line.rest.now ≡ [] = search rules in
-    (all_done _ _ _ _ _ _ c.loop-line.invariant.progress none).1
+    all_written _ _ _ _ _ _ c.loop-line.invariant.progress none

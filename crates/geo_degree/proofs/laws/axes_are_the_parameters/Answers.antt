@@ -1,4 +1,4 @@
-use Rattle.geo_height.proofs.HeightLaws.{constructed}
+use Rattle.geo_sketch.proofs.SketchLaws.{constructed}
 use Rattle.geo_degree.specs.Degrees.{statement_degree}
 use Rattle.geo_degree.specs.Grids.{parameters_of}
 use Rattle.geo_degree.proofs.AxisLaws.{is_axis, axes_by_degree, statement_axes_rise}

@@ -1,4 +1,4 @@
-use Rattle.geo_height.proofs.HeightLaws.{constructed}
+use Rattle.geo_sketch.proofs.SketchLaws.{constructed}
 use Rattle.geo_degree.proofs.PolynomialLaws.{coordinate_values, coordinate_lengths}
 use Rattle.geo_degree.proofs.laws.coordinates_are_polynomials.Goals as goal
 

@@ -1,4 +1,4 @@
-use Rattle.geo_height.proofs.HeightLaws.{constructed}
+use Rattle.geo_sketch.proofs.SketchLaws.{constructed}
 use Rattle.geo_degree.proofs.HoldingLaws.{holds_where_zero, zero_where_holds}
 use Rattle.geo_degree.proofs.laws.holds_by_the_axes_alone.Goals as goal
 

@@ -1,4 +1,4 @@
-use Rattle.geo_height.proofs.HeightLaws.{constructed}
+use Rattle.geo_sketch.proofs.SketchLaws.{constructed}
 use Rattle.geo_degree.proofs.PolynomialLaws.{part_values, part_lengths}
 use Rattle.geo_degree.proofs.laws.parts_are_polynomials.Goals as goal
 

@@ -1,4 +1,4 @@
-use Rattle.geo_height.proofs.HeightLaws.{constructed}
+use Rattle.geo_sketch.proofs.SketchLaws.{constructed}
 use Rattle.geo_degree.proofs.AgreementLaws.{parts_by_axes}
 use Rattle.geo_degree.proofs.laws.parts_by_the_axes_alone.Goals as goal
 

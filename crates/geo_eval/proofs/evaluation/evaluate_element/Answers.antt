@@ -4,12 +4,8 @@ use Rattle.geo_eval.specs.Reaches.{IsSized, reach_at, reach_by}
 use Rattle.geo_eval.proofs.ReachLaws.{reach_here, sized_here}
 use Rattle.geo_eval.proofs.evaluation.evaluate_element.Goals as goal
 
-pub returns-clause-value : goal.returns-clause-value
-returns-clause-value g c =
+pub returns : goal.returns
+returns g c =
     let made : c.reach_of.result ≡ reach_by c.args.element.now.def (setting_of c.args.sketch.now.settings c.args.element.now.number) (reach_at c.args.slots.now) = search rules in
-    made ∙ reach_here c.args.sketch.now c.requires.drawn c.args.slots.now c.requires.sized c.args.element.now.number c.args.element.now c.requires.live c.requires.known
-
-pub returns-clause-sized : goal.returns-clause-sized
-returns-clause-sized g c =
-    let made : c.reach_of.result ≡ reach_by c.args.element.now.def (setting_of c.args.sketch.now.settings c.args.element.now.number) (reach_at c.args.slots.now) = search rules in
-    subst IsSized (sym made) (sized_here c.args.sketch.now c.requires.drawn c.args.slots.now c.requires.sized c.args.element.now.number c.args.element.now c.requires.live c.requires.known)
+    let value = made ∙ reach_here c.args.sketch.now c.requires.drawn c.args.slots.now c.args.element.now.number c.args.element.now c.requires.live c.requires.known in
+    record { value = value; sized = subst IsSized (sym value) (sized_here c.args.sketch.now c.requires.drawn c.args.element.now.number); tick = search rules }

@@ -1,8 +1,10 @@
-use Rattle.geo_height.proofs.HeightLaws.{constructed, height_grows, statement_height_grows}
+use Rattle.geo_sketch.proofs.SketchLaws.{constructed}
+use Rattle.geo_height.proofs.HeightLaws.{heights_grow, statement_height_grows}
 use Rattle.geo_height.proofs.laws.heights_grow_with_magnitudes.Goals as goal
 
-pub returns-clause-element : goal.returns-clause-element
-returns-clause-element c drawing m k n drawn h = height_grows drawing.elements (constructed drawing drawn) m k h n
-
-pub returns-clause-statement : goal.returns-clause-statement
-returns-clause-statement c drawing m k s drawn h = statement_height_grows drawing.elements (constructed drawing drawn) m k h s
+pub returns : goal.returns
+returns c =
+    record {
+      element = λ drawing m k n drawn h. heights_grow drawing.elements (constructed drawing drawn) m k h n;
+      statement = λ drawing m k s drawn h. statement_height_grows drawing.elements (constructed drawing drawn) m k h s;
+    }

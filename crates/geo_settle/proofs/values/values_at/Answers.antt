@@ -1,10 +1,10 @@
-use Rattle.std.proofs.Common.{◌≡◌, ◌<◌, ◌∙◌, sym, ap, length, arith}
-use Rattle.geo_degree.specs.Grids.{grid_of, grid_point, grid_size}
-use Rattle.geo_degree.proofs.GridLaws.{length_point, positive_size}
+use Rattle.std.proofs.Common.{◌∙◌, sym, ap, List, length}
+use Rattle.geo_degree.specs.declared.grids.Block.{Block}
+use Rattle.geo_degree.specs.Blocks.{block_degrees}
+use Rattle.geo_degree.proofs.QuestionLaws.{axis_count}
 use Rattle.geo_settle.proofs.values.values_at.Goals as goal
 
 pub point-requires-clause-room : goal.point-requires-clause-room
 point-requires-clause-room g c =
-    let axes = (g.F.Form.question c.args.form.now).axes in
-    let one : length (grid_point c.args.grid.now 0) ≡ length axes = rw c.requires.grid (length_point axes 0 (let some : 0 < grid_size (grid_of axes) = omega (arith, positive_size axes) in some)) in
-    ap length c.deref_mut.ensures.value ∙ c.in_ok-values.ensures ∙ sym one
+    let form = c.args.form.now in
+    ap length c.deref_mut.ensures.value ∙ c.in_ok-values.ensures ∙ sym (axis_count (g.F.Form.question form) (g.met.F.Form.is_form form)) ∙ sym (ap (λ (bs : List Block). length (block_degrees bs)) c.requires.grid)

@@ -1,5 +1,5 @@
 use Rattle.std.proofs.Common.{◌≡◌, drop}
-use Rattle.geo_sketch.specs.Additions.{find_named}
+use Rattle.geo_sketch.specs.Lookups.{find_named}
 use Rattle.geo_sketch.proofs.lookups.find_by_name.Given as goal
 
 abbrev pub invariant-loop-element : goal.invariant-loop-element

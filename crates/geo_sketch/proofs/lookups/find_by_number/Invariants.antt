@@ -1,5 +1,5 @@
 use Rattle.std.proofs.Common.{◌≡◌, drop}
-use Rattle.geo_sketch.specs.Sketches.{numbered}
+use Rattle.geo_sketch.specs.Lookups.{numbered}
 use Rattle.geo_sketch.proofs.lookups.find_by_number.Given as goal
 
 abbrev pub invariant-loop-element : goal.invariant-loop-element

@@ -1,28 +1,23 @@
-use Rattle.std.proofs.Common.{◌≤◌, ◌*◌, arith, ap, ◌∙◌, rules, mul-le-mul_right, mul-le-mul_left, le_refl, FitsSigned}
+use Rattle.std.proofs.Common.{ap, ◌∙◌, le_trans, rules}
 use Rattle.std.specs.Int.{w128}
 use Rattle.std.proofs.lemmas.Int.{to_z-of_z}
-use Rattle.geo_triple.specs.Triple.{size_of, determinant_of, dot_of}
-use Rattle.geo_triple.specs.Height.{cross_height}
-use Rattle.geo_triple.proofs.Sizes.{one-size, size-cross}
+use Rattle.geo_triple.specs.Triple.{determinant_of, dot_of}
+use Rattle.geo_triple.specs.Sums.{FitIn, sizes_of, cross_sums, determinant_sum}
+use Rattle.geo_triple.proofs.Sums.{fit_refl, dot_sum-grows, cross-fits}
 use Rattle.geo_triple.proofs.products.det.Goals as goal
 
-pub cross-requires : goal.cross-requires
-cross-requires c =
-    let t = c.args.t.now in
-    let u = c.args.u.now in
-    omega (arith, c.requires, mul-le-mul_right (size_of t * size_of u) (one-size c.args.s.now))
-
 pub dot-requires : goal.dot-requires
+unfolding determinant_sum
 dot-requires c =
     let s = c.args.s.now in
     let t = c.args.t.now in
     let u = c.args.u.now in
-    let small : size_of c.cross.result ≤ cross_height (size_of t) (size_of u) =
-    rw c.cross.ensures (size-cross t u (size_of t) (size_of u) (le_refl _) (le_refl _))
+    let small : FitIn (sizes_of c.cross.result) (cross_sums (sizes_of t) (sizes_of u)) =
+    rw c.cross.ensures (cross-fits t u (sizes_of t) (sizes_of u) (fit_refl _) (fit_refl _))
     in
-    omega (arith, c.requires, mul-le-mul_left (size_of s) small)
+    le_trans (dot_sum-grows (sizes_of s) (sizes_of s) _ _ (fit_refl _) small) c.requires.sum
 
 pub returns : goal.returns
 unfolding determinant_of
 returns c =
-    let fits : FitsSigned w128 c.dot.result = search rules in to_z-of_z w128 c.dot.result fits ∙ c.dot.ensures ∙ ap (dot_of c.args.s.now) c.cross.ensures
+    to_z-of_z w128 c.dot.result (search rules) ∙ c.dot.ensures ∙ ap (dot_of c.args.s.now) c.cross.ensures

@@ -1,5 +1,8 @@
-use Rattle.geo_triple.proofs.Readings.{minor_read}
+use Rattle.std.proofs.Common.{◌^◌}
+use Rattle.std.specs.Int.{w128}
+use Rattle.geo_triple.proofs.Readings.{in_128, minor_read}
 use Rattle.geo_triple.proofs.products.difference_of_products.Goals as goal
 
 pub returns : goal.returns
-returns c = minor_read c.ranges.p c.ranges.q c.ranges.r c.ranges.s c.requires c.product.ensures c.product-2.ensures
+returns c =
+    let r = c.ranges in minor_read w128 (2 ^ 126) in_128 r.p r.q r.r r.s c.requires c.product.ensures c.product-2.ensures

@@ -6,8 +6,8 @@ use Rattle.geo_eval.specs.Scenes.{before_of}
 use Rattle.geo_eval.proofs.FollowLaws.{Following}
 use Rattle.geo_eval.proofs.scene.Scene.follow.Given as goal
 
-abbrev pub invariant-loop-element : goal.invariant-loop-element
-invariant-loop-element g l = record {
-  followed : Following (before_of l.fn.sketch (Dragged l.fn.number l.fn.from l.fn.to) l.fn.forward) l.fn.sketch l.fn.number l.moved l.self l.element-index;
-  ticks : l.steps ≡ l.fn.steps + count_by (λ e. depends_on l.fn.sketch.elements e.number l.fn.number) (take l.element-index l.fn.sketch.elements);
+abbrev pub invariant-loop-i : goal.invariant-loop-i
+invariant-loop-i g l = record {
+  followed : Following (before_of l.fn.sketch (Dragged l.fn.number l.fn.from l.fn.to) l.fn.forward) l.fn.sketch l.fn.number l.moved l.self l.i;
+  ticks : l.steps ≡ l.fn.steps + count_by (λ e. depends_on l.fn.sketch.elements e.number l.fn.number) (take l.i l.fn.sketch.elements);
 }

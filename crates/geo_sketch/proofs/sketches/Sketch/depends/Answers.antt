@@ -1,7 +1,7 @@
 use Rattle.std.proofs.Common.{sym, subst, List}
 use Rattle.geo_sketch.specs.declared.elements.Element.{Element}
-use Rattle.geo_sketch.specs.Tables.{IsConstruction}
-use Rattle.geo_sketch.proofs.HeightLaws.{construction}
+use Rattle.geo_sketch.specs.Constructions.{IsConstruction}
+use Rattle.geo_sketch.proofs.SketchLaws.{construction}
 use Rattle.geo_sketch.proofs.sketches.Sketch.depends.Goals as goal
 
 pub find_dependence-requires-clause-construction : goal.find_dependence-requires-clause-construction

@@ -1,10 +1,10 @@
 use Rattle.std.proofs.Common.{rules, ◌≡◌, subst, ◌<◌}
 use Rattle.std.specs.Prelude.{Ok}
 use Rattle.geo_sketch.specs.Sketches.{Drawing, IsDrawn, next_number}
-use Rattle.geo_sketch.specs.Tables.{IsLive}
+use Rattle.geo_sketch.specs.Lookups.{IsLive}
 use Rattle.geo_sketch.specs.Additions.{definition_of, addition_of}
 use Rattle.geo_sketch.proofs.AdditionLaws.{addition_leads, definition_fits}
-use Rattle.geo_sketch.proofs.HeightLaws.{named}
+use Rattle.geo_sketch.proofs.SketchLaws.{named}
 use Rattle.geo_sketch.proofs.ConstructionLaws.{at_named}
 use Rattle.geo_sketch.proofs.sketches.Sketch.find_addition.Goals as goal
 

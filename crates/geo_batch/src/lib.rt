@@ -1,0 +1,13 @@
+//! Jobs that run side by side and come back in their order.
+#![tactic(auto)]
+
+mod jobs;
+
+pub use jobs::{Job, run_all};
+
+/// Memory was wanting.
+#[derive(Clone, Copy, PartialEq, Eq, Debug)]
+pub struct NoMemory;
+
+#[cfg(test)]
+mod tests;

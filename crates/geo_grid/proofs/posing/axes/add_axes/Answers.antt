@@ -1,0 +1,1 @@
+use Rattle.geo_grid.proofs.posing.axes.add_axes.Goals as goal

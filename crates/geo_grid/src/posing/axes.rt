@@ -1,0 +1,85 @@
+//! The axes of a statement, and the blocks that they make.
+
+ghost use Rattle.std.specs.Prelude.{◌≡◌, ◌<◌, ◌++◌, ◌∷◌, [], ℕ, IfOk, OnOk};
+ghost use Rattle.geo_sketch.specs.Assignments.{first_parameter, second_parameter};
+ghost use Rattle.geo_sketch.specs.Sketches.{IsDrawn, number_limit};
+ghost use Rattle.geo_sketch.specs.Lookups.{IsLive};
+ghost use Rattle.geo_sketch.specs.declared.elements.Def.TheVariants.{Free as FreeDef};
+ghost use Rattle.geo_sketch.specs.Needs.{AtStated};
+ghost use Rattle.geo_degree.specs.Blocks.{blocks_of, own_blocks};
+ghost use Rattle.geo_degree.specs.Degrees.{statement_degree};
+ghost use Rattle.geo_degree.specs.Grids.{axes_among, axes_of, axis, own_parameters};
+
+use geo_degree::{Axis, Block, Degrees};
+use geo_sketch::{Def, Element, NoMemory, Sketch, Statement, first_parameter};
+use std::alloc::Global;
+
+/// The axes, by rising parameter, and the blocks that cover them, in that order.
+#[derive(Drop)]
+pub(crate) struct Found {
+    pub(crate) axes: Vec<Axis>,
+    pub(crate) blocks: Vec<Block>,
+}
+
+/// The axes and the blocks of a statement about live elements.
+pub(crate) fn find_axes(
+    alloc: Global,
+    sketch: &Sketch,
+    statement: &Statement,
+) -> Result<Found, NoMemory>
+    requires { AtStated statement.now (IsLive sketch.now.elements) }
+    ensures axes { IfOk result (λ found. found.axes.items ≡ axes_of sketch.now.elements statement.now) }
+    ensures blocks { IfOk result (λ found. found.blocks.items ≡ blocks_of sketch.now.elements statement.now) }
+    ensures drawn { OnOk result (IsDrawn sketch.now) }
+{
+    let degrees = Degrees::of(alloc, sketch)?;
+    let mut axes = Vec::new(alloc);
+    let mut blocks = Vec::new(alloc);
+    for element in sketch.elements() {
+        add_axes(&degrees, statement, element, &mut axes, &mut blocks)?;
+    }
+    Ok(Found { axes, blocks })
+}
+
+/// Adds those of the parameters of an element that are axes, and their block. The two
+/// parameters of a free element have one degree.
+fn add_axes(
+    degrees: &Degrees,
+    statement: &Statement,
+    element: &Element,
+    axes: &mut Vec<Axis>,
+    blocks: &mut Vec<Block>,
+) -> Result<(), NoMemory>
+    requires live { AtStated statement.now (IsLive degrees.now) }
+    requires low { element.now.number < number_limit }
+    requires same { element.now.def ≡ FreeDef → statement_degree degrees.now statement.now (first_parameter element.now.number) ≡ statement_degree degrees.now statement.now (second_parameter element.now.number) }
+    ensures axes { OnOk result (axes.new.items ≡ axes.old.items ++ axes_among (statement_degree degrees.now statement.now) (own_parameters element.now.number element.now.def)) }
+    ensures blocks { OnOk result (blocks.new.items ≡ blocks.old.items ++ own_blocks (statement_degree degrees.now statement.now) element.now.number element.now.def) }
+{
+    let param = first_parameter(element.number) as u32;
+    let is_pair = match element.def {
+        Def::Free => true,
+        Def::Cut(_) | Def::Blend(_, _) => false,
+        Def::Fixed(_, _, _) | Def::Cross(_, _) => return Ok(()),
+    };
+    let degree = degrees.of_statement(statement, param);
+    if degree == 0 {
+        return Ok(());
+    }
+    push(axes, Axis { param, degree })?;
+    if !is_pair {
+        return push(blocks, Block::One(degree));
+    }
+    let param = param + 1;
+    push(axes, Axis { param, degree })?;
+    push(blocks, Block::Pair(degree))
+}
+
+fn push<T: Drop>(list: &mut Vec<T>, item: T) -> Result<(), NoMemory>
+    ensures { OnOk result (list.new.items ≡ list.old.items ++ item ∷ []) }
+{
+    match list.push(item) {
+        Ok(()) => Ok(()),
+        Err(_) => Err(NoMemory),
+    }
+}

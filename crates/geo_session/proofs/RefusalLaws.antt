@@ -1,0 +1,60 @@
+-- An answer that refuses is the refusal, and changes nothing.
+use Rattle.std.proofs.Common.{◌≡◌, ap, List, [], ◌∷◌, ℕ}
+use Rattle.std.specs.Prelude.{Option, None, Some, Result, Ok, Err}
+use Rattle.geo_sketch.specs.declared.changes.Delta.{Delta}
+use Rattle.geo_sketch.specs.declared.changes.Refusal.{Refusal}
+use Rattle.geo_sketch.specs.declared.changes.Refusal.TheVariants as refusal
+use Rattle.geo_sketch.specs.Additions.{addition_of}
+use Rattle.geo_sketch.specs.Claims.{claim_of}
+use Rattle.geo_sketch.specs.Drags.{drag_of}
+use Rattle.geo_sketch.specs.Drops.{drop_of}
+use Rattle.geo_parse.specs.declared.commands.Command.{Command}
+use Rattle.geo_parse.specs.declared.commands.Command.TheVariants as command
+use Rattle.geo_parse.specs.Reading.{read_of}
+use Rattle.geo_session.specs.declared.state.Reply.{Reply}
+use Rattle.geo_session.specs.declared.state.Reply.TheVariants.{Refused}
+use Rattle.geo_session.specs.Answers.{Answer, State, drawing_of, answer_by, answer_of, answer_to, changed, counted, done_again, last_of, refused, taken_back_to}
+
+-- where an answer to a line refuses
+abbrev RefusesOnly : State → Answer → Type 0
+RefusesOnly state a = (r : Refusal) → a.reply ≡ Refused r → a ≡ refused state r
+
+refusal_only : (state : State) (x : Refusal) → RefusesOnly state (refused state x)
+refusal_only state x r is = let same : x ≡ r = cc in ap (refused state) same
+
+change_refuses : (state : State) (x : Result Delta Refusal) → RefusesOnly state (changed state x)
+change_refuses state (Ok d) r is = cc
+change_refuses state (Err x) r is = refusal_only state x r is
+
+undo_refuses : (state : State) (o : Option Delta) → RefusesOnly state (taken_back_to state o)
+undo_refuses state None r is = refusal_only state refusal.Nothing r is
+undo_refuses state (Some d) r is = cc
+
+redo_refuses : (state : State) (ds : List Delta) → RefusesOnly state (done_again state ds)
+redo_refuses state [] r is = refusal_only state refusal.Nothing r is
+redo_refuses state (d ∷ ds) r is = cc
+
+command_refuses : (state : State) (c : Command) → RefusesOnly state (answer_to state c)
+command_refuses state (command.Add name kind spec) r is = change_refuses state (addition_of (drawing_of state) name kind spec) r is
+command_refuses state (command.Claim said) r is = change_refuses state (claim_of (drawing_of state) said) r is
+command_refuses state command.Dual r is = cc
+command_refuses state command.Screen r is = cc
+command_refuses state (command.Drag name to) r is = change_refuses state (drag_of (drawing_of state) name to) r is
+command_refuses state (command.Drop name) r is = change_refuses state (drop_of (drawing_of state) name) r is
+command_refuses state command.Undo r is = undo_refuses state (last_of state.done) r is
+command_refuses state command.Redo r is = redo_refuses state state.undone r is
+command_refuses state command.Conjectures r is = refusal_only state refusal.Command r is
+command_refuses state command.Ledger r is = cc
+command_refuses state (command.Certify said) r is = refusal_only state refusal.Command r is
+command_refuses state command.Svg r is = refusal_only state refusal.Command r is
+command_refuses state (command.Show k) r is = refusal_only state refusal.Command r is
+command_refuses state (command.Close k) r is = refusal_only state refusal.Command r is
+
+read_refuses : (state : State) (x : Result (Option Command) Refusal) → RefusesOnly state (answer_by state x)
+read_refuses state (Err x) r is = refusal_only state x r is
+read_refuses state (Ok None) r is = cc
+read_refuses state (Ok (Some c)) r is = command_refuses state c r is
+
+pub line_refuses : (state : State) (line : List ℕ) → RefusesOnly (counted state) (answer_of state line)
+unfolding answer_of
+line_refuses state line = read_refuses (counted state) (read_of line)

@@ -1,0 +1,37 @@
+-- What is printed, piece by piece.
+use Rattle.std.specs.Prelude.{ℕ, List, flat_map, map}
+use Rattle.std.specs.List.{AllByRecursion}
+use Rattle.geo_sketch.specs.declared.elements.Element.{Element}
+use Rattle.geo_sketch.specs.declared.statements.Statement.{Statement}
+use Rattle.geo_sketch.specs.declared.verdicts.Verdict.{Verdict}
+use Rattle.geo_sketch.specs.Sketches.{Drawing}
+use Rattle.geo_ledger.specs.Ledgers.{ledger_of}
+use Rattle.geo_session.specs.LedgerTexts.{ledger_line}
+use Rattle.geo_session.specs.Truth.{IsTrue}
+
+-- some text, or the line of a ledger: a statement about some elements, with its verdict
+pub data Piece : Type 0 where
+  Text : List ℕ → Piece
+  LedgerLine : List Element → Statement → Verdict → Piece
+
+-- its bytes
+abbrev pub bytes_of : Piece → List ℕ
+bytes_of (Text bytes) = bytes
+bytes_of (LedgerLine es s r) = ledger_line es s r
+
+-- those of all pieces, one after the other
+abbrev pub text_of : List Piece → List ℕ
+text_of pieces = flat_map bytes_of pieces
+
+-- where it prints a verdict, that is true
+abbrev pub IsTruePiece : Piece → Type 0
+IsTruePiece (Text bytes) = Unit {0}
+IsTruePiece (LedgerLine es s r) = IsTrue es s r
+
+-- every verdict that is printed is true
+abbrev pub AreTrue : List Piece → Type 0
+AreTrue pieces = AllByRecursion IsTruePiece pieces
+
+-- the ledger of a sketch, line by line
+abbrev pub ledger_lines : Drawing → List Piece
+ledger_lines drawing = map (λ e. LedgerLine drawing.elements e.statement e.verdict) (ledger_of drawing)

@@ -1,8 +1,0 @@
-use Rattle.std.proofs.Common.{◌≤◌}
-use Rattle.std.specs.Prelude.{All}
-use Rattle.geo_sketch.specs.Heights.{height_algebra, threes, height_limit}
-use Rattle.geo_sketch.specs.Tables.{Filled}
-use Rattle.geo_sketch.proofs.heights.heights_of.Given as goal
-
-abbrev pub invariant-loop-i : goal.invariant-loop-i
-invariant-loop-i l = record { filled : Filled (height_algebra threes) l.elements 0 l.heights l.i; low : All (λ h. h ≤ height_limit) l.heights }
