@@ -1,4 +1,4 @@
-//! The figures, whose statement is that X, Y and Z are collinear.
+//! The figures. Each has a statement, that three of its points are collinear.
 
 ghost use Rattle.geo_sketch.specs.Additions.{IsSmallSpec};
 
@@ -42,13 +42,21 @@ fn meets(sketch: &mut Sketch, rows: &[[&str; 7]]) -> Result<()> {
     Ok(())
 }
 
-/// Desargues' figure with a fixed centre.
-fn desargues(alloc: Global) -> Result<Sketch> {
-    let mut sketch = Sketch::new(alloc);
-    add(&mut sketch, "O", Kind::Point, &Spec::Fixed(0, 0, 1))?;
-    for text in ["A", "B", "C"] {
-        add(&mut sketch, text, Kind::Point, &Spec::Free(0, 0))?;
+/// Free points.
+fn points(sketch: &mut Sketch, names: &[&str]) -> Result<()> {
+    for text in names {
+        add(sketch, text, Kind::Point, &Spec::Free(0, 0))?;
     }
+    Ok(())
+}
+
+/// Desargues' figure with a fixed centre.
+fn desargues(alloc: Global, centre: &Spec) -> Result<Sketch>
+    requires { IsSmallSpec centre.now }
+{
+    let mut sketch = Sketch::new(alloc);
+    add(&mut sketch, "O", Kind::Point, centre)?;
+    points(&mut sketch, &["A", "B", "C"])?;
     along(
         &mut sketch,
         &[("D", "O", "A"), ("E", "O", "B"), ("F", "O", "C")],
@@ -64,18 +72,12 @@ fn desargues(alloc: Global) -> Result<Sketch> {
     Ok(sketch)
 }
 
-/// Pappus' figure, whose points A and B are as told.
-fn pappus(alloc: Global, a: &Spec, b: &Spec) -> Result<Sketch>
-    requires a { IsSmallSpec a.now }
-    requires b { IsSmallSpec b.now }
-{
+/// Pappus' figure with four free points.
+fn pappus(alloc: Global) -> Result<Sketch> {
     let mut sketch = Sketch::new(alloc);
-    add(&mut sketch, "A", Kind::Point, a)?;
-    add(&mut sketch, "B", Kind::Point, b)?;
+    points(&mut sketch, &["A", "B"])?;
     along(&mut sketch, &[("C", "A", "B")])?;
-    for text in ["D", "E"] {
-        add(&mut sketch, text, Kind::Point, &Spec::Free(0, 0))?;
-    }
+    points(&mut sketch, &["D", "E"])?;
     along(&mut sketch, &[("F", "D", "E")])?;
     meets(
         &mut sketch,
@@ -88,12 +90,43 @@ fn pappus(alloc: Global, a: &Spec, b: &Spec) -> Result<Sketch>
     Ok(sketch)
 }
 
+/// Forty elements with 24 parameters, of which X, Y and Z are three free points.
+fn forty(alloc: Global) -> Result<Sketch> {
+    let mut sketch = Sketch::new(alloc);
+    let corners = ["X", "Y", "Z", "A", "B", "C", "D", "E"];
+    points(&mut sketch, &corners)?;
+    let middles = ["F", "G", "H", "I", "J", "K", "L", "M"];
+    for (k, middle) in middles.iter().enumerate() {
+        along(&mut sketch, &[(middle, corners[k], corners[(k + 1) % 8])])?;
+    }
+    for (k, names) in [
+        ["a", "b", "c"],
+        ["d", "e", "f"],
+        ["g", "h", "i"],
+        ["j", "k", "l"],
+        ["m", "n", "o"],
+        ["p", "q", "r"],
+        ["s", "t", "u"],
+        ["v", "w", "x"],
+    ]
+    .iter()
+    .enumerate()
+    {
+        for (m, text) in names.iter().enumerate() {
+            let join = Spec::Cross(named(corners[k])?, named(middles[(k + m + 2) % 8])?);
+            add(&mut sketch, text, Kind::Line, &join)?;
+        }
+    }
+    Ok(sketch)
+}
+
 /// The figure of this name.
 pub(crate) fn figure_of(alloc: Global, name: &str) -> Result<Sketch> {
     match name {
-        "desargues" => desargues(alloc),
-        "pappus-fixed" => pappus(alloc, &Spec::Fixed(0, 1, 1), &Spec::Fixed(2, 1, 1)),
-        "pappus" => pappus(alloc, &Spec::Free(0, 0), &Spec::Free(0, 0)),
+        "S1" => desargues(alloc, &Spec::Fixed(0, 0, 1)),
+        "S1-far" => desargues(alloc, &Spec::Fixed(1000, 1000, 1000)),
+        "S2" => pappus(alloc),
+        "forty" => forty(alloc),
         _ => bail!("no figure {name}"),
     }
 }

@@ -1,44 +1,84 @@
-//! Goes over many points of the grids of statements, and counts those at which they fail: the
-//! program that bench/settle.sh times. Each line of its input has a figure and how many points.
+//! What bench/table.py times. Each line of the input has a figure, a way and a number: `grid`
+//! goes over so many points of the statement's grid by a cursor, `lane` does so without, `wide`
+//! does so outside of the lane, each of them counting where the statement fails; and `pose`
+//! poses the statement as often.
 #![tactic(auto)]
 
 mod figures;
 mod walks;
 
-use anyhow::{Context, Result};
+ghost use Rattle.geo_sketch.specs.Sketches.{IsPosed};
+
+use anyhow::{Context, Result, bail};
 use figures::{figure_of, named};
-use geo_grid::{Grid, GridStop, Posed};
-use geo_sketch::{NoMemory, Said};
+use geo_grid::{Form, Grid, GridStop, Posed};
+use geo_sketch::{NoMemory, Said, Sketch, Statement};
 use std::alloc::Global;
 use std::io::Read;
 use std::marker::Brand;
 use std::sync::ledger::Blank;
-use walks::{over_first, over_grid};
+use walks::{over_grid, over_triangles};
 
-/// At how many of so many points X, Y and Z of the figure are not collinear.
-fn count_failing(alloc: Global, figure: &str, points: u64) -> Result<u64> {
+/// How many axes the statement has that is posed so often.
+fn pose(alloc: Global, sketch: &Sketch, statement: Statement, times: u64) -> Result<u64>
+    requires { IsPosed sketch.now.elements statement }
+{
+    let mut axes = 0;
+    for _ in 0..times {
+        let posed = Posed::new(alloc, sketch, statement).ok().context("memory")?;
+        axes = posed.axes().len() as u64;
+    }
+    Ok(axes)
+}
+
+/// At how many of so many points the statement fails.
+fn count_failing(alloc: Global, posed: &Posed, way: &str, points: u64) -> Result<u64> {
+    let failed = match (way, Grid::of(alloc, posed)) {
+        ("grid", Ok(grid)) => over_grid::<Posed, Brand>(alloc, posed, &grid, points, Blank::new(1)),
+        ("lane", Ok(_)) => over_triangles::<Posed, Brand>(
+            alloc,
+            posed,
+            false,
+            points,
+            Blank::new(1),
+        ),
+        ("wide", Ok(_)) => over_triangles::<Posed, Brand>(
+            alloc,
+            posed,
+            true,
+            points,
+            Blank::new(1),
+        ),
+        (_, Err(GridStop::NoMemory)) => Err(NoMemory),
+        (_, Err(GridStop::Past(_))) => bail!("no grid"),
+        (way, Ok(_)) => bail!("no way {way}"),
+    };
+    failed.ok().context("memory")
+}
+
+/// What a line asks for: at how many points its statement fails, or how many axes it has.
+fn carry_out(alloc: Global, line: &str) -> Result<u64> {
+    let (figure, rest) = line.split_once(' ').context("a figure")?;
+    let (way, count) = rest.split_once(' ').context("a way and a number")?;
+    let count = count.parse::<u64>().context("how many")?;
     let sketch = figure_of(alloc, figure)?;
     let said = Said::Collinear(named("X")?, named("Y")?, named("Z")?);
     let statement = sketch.resolve(&said).ok().context("a statement")?;
+    if way == "pose" {
+        return pose(alloc, &sketch, statement, count);
+    }
     let posed = Posed::new(alloc, &sketch, statement)
         .ok()
         .context("memory")?;
-    let failed = match Grid::of(alloc, &posed) {
-        Ok(grid) => over_grid::<Posed, Brand>(alloc, &posed, &grid, points, Blank::new(1)),
-        Err(GridStop::Past(_)) => over_first::<Posed, Brand>(alloc, &posed, points, Blank::new(1)),
-        Err(GridStop::NoMemory) => Err(NoMemory),
-    };
-    failed.ok().context("memory")
+    count_failing(alloc, &posed, way, count)
 }
 
 fn main(rt: HostRuntime) -> Result<()> {
     let mut input = String::new(rt.alloc());
     rt.reader().read_to_string(&mut input)?;
     for line in input.lines() {
-        let (figure, points) = line.split_once(' ').context("a figure and a number")?;
-        let points = points.parse::<u64>().context("how many points")?;
-        let failed = count_failing(rt.alloc(), figure, points)?;
-        println!(rt; "{figure}: {points} points, {failed} failed")?;
+        let count = carry_out(rt.alloc(), line)?;
+        println!(rt; "{line}: {count}")?;
     }
     Ok(())
 }

@@ -1,4 +1,4 @@
-//! Counts what the lines of a script read as: the program that bench/parse.sh
+//! Counts what the lines of a script read as: the program that bench/table.py
 //! times.
 #![tactic(auto)]
 

@@ -1,0 +1,6 @@
+use Rattle.std.proofs.Common.{◌≡◌, ◌++◌, drop, map}
+use Rattle.geo_sketch.specs.declared.statements.Statement.TheVariants as statement
+use Rattle.geo_guess.proofs.candidates.push_on.Given as goal
+
+abbrev pub invariant-loop-k : goal.invariant-loop-k
+invariant-loop-k l = l.statements.items ++ map (λ k. statement.On k l.n) (drop l.k-index l.below) ≡ l.fn.statements.items ++ map (λ k. statement.On k l.n) l.below

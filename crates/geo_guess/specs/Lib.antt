@@ -1,0 +1,4 @@
+pub mod Candidates
+pub mod Conjectures
+pub mod Order
+pub mod Tables

@@ -1,0 +1,36 @@
+//! Trying candidates by several threads.
+
+ghost use Rattle.std.specs.Prelude.{◌≡◌, ◌&&◌, IfOk, filter};
+ghost use Rattle.geo_sketch.specs.Drops.{speaks_of};
+ghost use Rattle.geo_guess.specs.Conjectures.{is_conjecture};
+ghost use Rattle.geo_guess.specs.Tables.{AreTables};
+
+use crate::trials::is_guessed;
+use geo_sketch::{ELEMENT_LIMIT, Sketch, Statement};
+use geo_triple::Triple;
+use rayon::prelude::*;
+use std::alloc::{AllocError, Global};
+use std::thread::Threads;
+
+/// The statements among these that name element n and are conjectures, in their order.
+pub(crate) fn conjectures_naming(
+    rt: &(impl Threads + Sync),
+    alloc: Global,
+    sketch: &Sketch,
+    tables: &[[Triple; ELEMENT_LIMIT]],
+    n: u32,
+    statements: Vec<Statement>,
+) -> Result<Vec<Statement>, AllocError>
+    requires { AreTables sketch.now.elements tables.now }
+    ensures { IfOk result (λ v. v.items ≡ filter (λ s. speaks_of s n && is_conjecture sketch.now.elements s) statements.items) }
+{
+    statements
+        .into_par_iter()
+        .filter(
+            |s: &Statement| -> bool
+                requires { AreTables sketch.now.elements tables.now }
+                ensures { result ≡ (speaks_of s.now n && is_conjecture sketch.entry.now.elements s.now) }
+            { s.names(n) && is_guessed(sketch, tables, s) },
+        )
+        .collect(rt, alloc)
+}

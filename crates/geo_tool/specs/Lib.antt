@@ -1,0 +1,4 @@
+pub mod Tools
+pub mod Uses
+pub mod Asked
+pub mod Expansion

@@ -1,0 +1,15 @@
+//! Named tools: a script's lines expanded, one by one, so that none of them defines or
+//! uses a tool.
+#![tactic(auto)]
+
+mod expanded;
+mod expander;
+mod laws;
+#[cfg(test)]
+mod tests;
+mod tools;
+mod uses;
+
+pub use expanded::Expanded;
+pub use expander::Expander;
+pub use laws::{fed_one_by_one, few_lines_given, own_expansion};
