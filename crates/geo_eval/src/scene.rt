@@ -19,8 +19,8 @@ use std::alloc::Global;
 use std::marker::Model;
 use std::sync::ledger::Ledger;
 
-/// Where each element of a sketch is. A scene is kept while its sketch changes, so
-/// that a change costs the evaluation of what it moves, and no more.
+/// Where each element of a sketch is. A scene is kept while its sketch changes; a
+/// change ticks at most once for each element that it moves.
 #[derive(Drop)]
 pub struct Scene {
     /// Of each number that was given, with none where it is not live.

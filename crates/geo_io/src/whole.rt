@@ -14,8 +14,8 @@ const MOST_BYTES: usize = 16_777_216;
 /// The length of the buffer that each read is given.
 const BUFFER_LEN: usize = 4096;
 
-/// Gives all bytes up to the source's end. At an `Err` some bytes were taken and are lost; once
-/// more than 2^24 bytes were taken the source is not asked again.
+/// Gives all bytes up to the source's end. At an `Err` some bytes were taken and are lost:
+/// TooLong comes exactly where these are more than 2^24.
 pub fn read_all<S: Source>(alloc: Global, source: &mut S) -> Result<Vec<u8>, LineEnd>
     ensures all { IfOk result (λ bytes.
         Consumes (S.left source.old) (S.left source.new) bytes.items) }

@@ -49,8 +49,7 @@ impl Ledger {
     }
 
     /// The ledger of the sketch: its claims in the order of claiming, each with its
-    /// verdict. A verdict that is kept is not found again. The number of workers has no
-    /// effect yet.
+    /// verdict, kept or found now. The number of workers has no effect yet.
     pub fn entries(
         &mut self,
         alloc: Global,
@@ -77,8 +76,8 @@ impl Ledger {
         Ok(&self.list)
     }
 
-    /// The verdict of a statement. One that is kept is not found again. The number of
-    /// workers has no effect yet.
+    /// The verdict of a statement, kept or found now. The number of workers has no effect
+    /// yet.
     pub fn verdict(
         &mut self,
         alloc: Global,

@@ -1,4 +1,4 @@
-use crate::{print_command, read_line, split_words};
+use crate::{Command, print_command, read_line, split_words};
 use geo_sketch::Refusal;
 use std::alloc::Global;
 use std::test::Fail;
@@ -144,5 +144,16 @@ fn words_are_split_at_blanks(rt: HostRuntime) -> Result<(), Fail> {
     assert_eq!(rt; words.next(), Some(b"on".as_slice()));
     assert_eq!(rt; words.count(), 2);
     assert_eq!(rt; split_words(b" \t").count(), 0);
+    Ok(())
+}
+
+/// A command is appended, and what stood before it stays.
+#[test]
+fn a_command_behind_other_bytes(rt: HostRuntime) -> Result<(), Fail> {
+    let mut text = Vec::new(rt.alloc());
+    text.extend_from_slice(b"ok ")?;
+    print_command(&Command::Undo, &mut text)?;
+    print_command(&Command::Screen, &mut text)?;
+    assert_eq!(rt; text.as_slice(), b"ok undoscreen".as_slice());
     Ok(())
 }

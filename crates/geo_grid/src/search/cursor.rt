@@ -71,8 +71,8 @@ impl<'a, F: Form> Cursor<'a, F> {
         self.started = true;
     }
 
-    /// Goes one point further, or stays at the last one. It takes no memory. It evaluates at
-    /// most the elements that depend on the first axis whose value changes or a later one.
+    /// Goes one point further, or stays at the last one. It takes no memory. It ticks at most
+    /// once for each element that depends on the first axis whose value changes or a later one.
     pub fn next<L: Ledger>(&mut self, steps: &mut Steps<L>) -> bool
         requires { self.old.2 ≡ true }
         ensures last { (result ≡ false) ↔ (self.old.1 + 1 ≡ grid_size (grid_of (F.question self.old.0))) }
