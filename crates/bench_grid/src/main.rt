@@ -1,10 +1,12 @@
 //! What bench/table.py times. Each line of the input has a figure, a way and a number: `grid`
 //! goes over so many points of the statement's grid by a cursor, `lane` does so without, `wide`
-//! does so outside of the lane, each of them counting where the statement fails; and `pose`
-//! poses the statement as often.
+//! does so outside of the lane, each of them counting where the statement fails; `pose` poses
+//! the statement as often; `workers` lets so many search its whole grid; and `again` lets 16
+//! workers search as often for the first point at which X, Y and A are not collinear.
 #![tactic(auto)]
 
 mod figures;
+mod searches;
 mod walks;
 
 ghost use Rattle.geo_sketch.specs.Sketches.{IsPosed};
@@ -13,10 +15,12 @@ use anyhow::{Context, Result, bail};
 use figures::{figure_of, named};
 use geo_grid::{Form, Grid, GridStop, Posed};
 use geo_sketch::{NoMemory, Said, Sketch, Statement};
+use searches::{search, search_again};
 use std::alloc::Global;
 use std::io::Read;
 use std::marker::Brand;
 use std::sync::ledger::Blank;
+use std::thread::Threads;
 use walks::{over_grid, over_triangles};
 
 /// How many axes the statement has that is posed so often.
@@ -56,13 +60,15 @@ fn count_failing(alloc: Global, posed: &Posed, way: &str, points: u64) -> Result
     failed.ok().context("memory")
 }
 
-/// What a line asks for: at how many points its statement fails, or how many axes it has.
-fn carry_out(alloc: Global, line: &str) -> Result<u64> {
+/// What a line asks for: at how many points its statement fails, how many axes it has, or the
+/// index that was found.
+fn carry_out<R: Threads + Sync>(rt: &R, alloc: Global, line: &str) -> Result<u64> {
     let (figure, rest) = line.split_once(' ').context("a figure")?;
     let (way, count) = rest.split_once(' ').context("a way and a number")?;
     let count = count.parse::<u64>().context("how many")?;
     let sketch = figure_of(alloc, figure)?;
-    let said = Said::Collinear(named("X")?, named("Y")?, named("Z")?);
+    let third = if way == "again" { "A" } else { "Z" };
+    let said = Said::Collinear(named("X")?, named("Y")?, named(third)?);
     let statement = sketch.resolve(&said).ok().context("a statement")?;
     if way == "pose" {
         return pose(alloc, &sketch, statement, count);
@@ -70,14 +76,18 @@ fn carry_out(alloc: Global, line: &str) -> Result<u64> {
     let posed = Posed::new(alloc, &sketch, statement)
         .ok()
         .context("memory")?;
-    count_failing(alloc, &posed, way, count)
+    match way {
+        "workers" => search(rt, alloc, &posed, count),
+        "again" => search_again(rt, alloc, &posed, count),
+        _ => count_failing(alloc, &posed, way, count),
+    }
 }
 
 fn main(rt: HostRuntime) -> Result<()> {
     let mut input = String::new(rt.alloc());
     rt.reader().read_to_string(&mut input)?;
     for line in input.lines() {
-        let count = carry_out(rt.alloc(), line)?;
+        let count = carry_out(&rt, rt.alloc(), line)?;
         println!(rt; "{line}: {count}")?;
     }
     Ok(())

@@ -1,100 +1,142 @@
--- A script that was carried out as far as some line.
-use Rattle.std.proofs.Common.{◌≡◌, ◌∙◌, sym, ap, subst, refl, ℕ, ◌++◌, Bool, true, false, ◌||◌, Option, List, [], ◌∷◌, append_assoc}
-use Rattle.std.specs.Io.KnownBytes.{Appends}
-use Rattle.std.proofs.KnownBytes.{Appends-nil, Appends-trans}
-use Rattle.std.proofs.lemmas.Grind.{flat_map-append}
+-- Lines that were carried out, as far as some line.
+use Rattle.std.proofs.Common.{◌≡◌, ◌∙◌, sym, ap, subst, refl, inl, inr, ◌⊎◌, ℕ, ◌+◌, ◌^◌, ◌<◌, ◌≤◌, ◌↔◌, ◌++◌, Bool, true, false, Option, List, [], ◌∷◌, length, take, map, append_assoc, arith}
+use Rattle.std.specs.Io.KnownBytes.{Appends, Consumes, IsAtEnd}
+use Rattle.std.proofs.KnownBytes.{Appends-nil, Appends-trans, Consumes-nil, Consumes-trans}
 use Rattle.std.proofs.lemmas.List.{append-nil}
-use Rattle.geo_io.specs.Lines.{lines_of}
+use Rattle.std.proofs.lemmas.Grind.{common_steps}
+use Rattle.geo_io.specs.Lines.{cut_lines_of, whole_lines_of, has_line_feed}
 use Rattle.geo_io.specs.Pieces.{AppendsFront}
-use Rattle.geo_session.specs.declared.state.Reply.{Reply}
-use Rattle.geo_session.specs.declared.state.Session.{Session}
-use Rattle.geo_session.specs.Answers.{State, start, answer_of, is_refused, has_refusal, printed_from}
-use Rattle.geo_session.specs.Printed.{bytes_of, text_of}
-use Rattle.geo_session.specs.Standing.{StandsFor}
-use Rattle.geo_app.specs.Steps.{IsTaken}
+use Rattle.geo_io.specs.Taking.{Taking, first_taking, lines_left, CanFollow, IsRightOnEnd, IsAskedFor, GivesLine, GivesNone, StopsBetween}
+use Rattle.geo_io.specs.Taking as taking
+use Rattle.geo_io.proofs.WholeLines.{whole_lines_given}
+use Rattle.geo_app.specs.Courses.{Course, Takes}
 
--- the bytes that are written for some bytes of a script, from a state on
-abbrev pub reply_to : State → List ℕ → List ℕ
-reply_to state bytes = text_of (printed_from state (lines_of bytes))
-
--- the session stands for a state, what was written and what the state makes of the rest are
--- the whole output, and so it is with what was refused
-pub record Progress (bytes rest : List ℕ) (before held : Option (List ℕ)) (session : Session) (refused : Bool) : Type 0 where
-  pub state : State
-  pub stands : StandsFor session state
+-- these lines were given of the bytes that were taken, these bytes were written for them, and what is to come is the rest
+pub record Progress (course : Course) (limit : ℕ) (lines : Taking) (Goes : Course → Type 0) (first left before held : Option (List ℕ)) : Type 0 where
+  pub next : Course
+  pub goes : Goes next
+  pub taken : List ℕ
+  pub consumes : Consumes first left taken
+  pub counted : lines.taken ≡ length taken
+  pub limit_is : lines.limit ≡ limit
+  pub given : List (List ℕ)
+  pub gives : (rest : List ℕ) → CanFollow lines rest → cut_lines_of limit (taken ++ rest) ≡ given ++ lines_left lines rest
   pub written : List ℕ
   pub writes : Appends before held written
-  pub output : reply_to start bytes ≡ written ++ reply_to state rest
-  pub refusal : has_refusal start (lines_of bytes) ≡ (refused || has_refusal state (lines_of rest))
+  pub text : (more : List (List ℕ)) → course.text (given ++ more) ≡ written ++ next.text more
+  pub meanwhile : (more : List (List ℕ)) → course.meanwhile (given ++ more) ≡ written ++ next.meanwhile more
+  pub refuses : (more : List (List ℕ)) → course.refuses (given ++ more) ≡ next.refuses more
+  pub silent : next.meanwhile [] ≡ []
 
-pub begun : (bytes : List ℕ) (held : Option (List ℕ)) (session : Session) → StandsFor session start → Progress bytes bytes held held session false
-begun bytes held session stands = record {
-  state = start;
-  stands = stands;
+pub begun : (course : Course) (limit : ℕ) (Goes : Course → Type 0) (first before : Option (List ℕ)) → Goes course → course.meanwhile [] ≡ [] → Progress course limit (first_taking limit) Goes first first before before
+begun course limit Goes first before goes silent = record {
+  next = course;
+  goes = goes;
+  taken = [];
+  consumes = Consumes-nil first;
+  counted = refl;
+  limit_is = refl;
+  given = [];
+  gives = λ rest can. refl;
   written = [];
-  writes = Appends-nil held;
-  output = refl;
-  refusal = refl;
+  writes = Appends-nil before;
+  text = λ more. refl;
+  meanwhile = λ more. refl;
+  refuses = λ more. refl;
+  silent = silent;
 }
 
--- the next line, and what follows it
-next_output : (state : State) (rest line after : List ℕ) → lines_of rest ≡ line ∷ lines_of after → reply_to state rest ≡ text_of (answer_of state line).printed ++ reply_to (answer_of state line).next after
-unfolding printed_from
-next_output state rest line after cut =
-    ap (λ ls. text_of (printed_from state ls)) cut ∙ flat_map-append bytes_of (answer_of state line).printed (printed_from (answer_of state line).next (lines_of after))
-
-next_refusal : (state : State) (rest line after : List ℕ) → lines_of rest ≡ line ∷ lines_of after → has_refusal state (lines_of rest) ≡ (is_refused (answer_of state line).reply || has_refusal (answer_of state line).next (lines_of after))
-unfolding has_refusal
-next_refusal state rest line after cut = ap (has_refusal state) cut
-
-or_assoc : (a b c : Bool) → (a || (b || c)) ≡ ((a || b) || c)
-or_assoc true b c = refl
-or_assoc false b c = refl
-
--- one more line
-pub line_done : (bytes rest line after : List ℕ) (before held held' : Option (List ℕ)) (session session' : Session) (refused : Bool) (reply : Reply) → (p : Progress bytes rest before held session refused) → lines_of rest ≡ line ∷ lines_of after → IsTaken p.state line reply held held' session' → Progress bytes after before held' session' (refused || is_refused reply)
-line_done bytes rest line after before held held' session session' refused reply p cut taken =
-    let answer = answer_of p.state line in
-    let text = text_of answer.printed in
-    let later = has_refusal answer.next (lines_of after) in record {
-      state = answer.next;
-      stands = taken.stands;
-      written = p.written ++ text;
-      writes = Appends-trans before held held' p.written text p.writes taken.writes;
-      output = p.output ∙ ap (λ l. p.written ++ l) (next_output p.state rest line after cut) ∙ sym (append_assoc p.written text (reply_to answer.next after));
-      refusal = p.refusal ∙ ap (λ b. refused || b) (next_refusal p.state rest line after cut) ∙ or_assoc refused (is_refused answer.reply) later ∙ ap (λ r. (refused || is_refused r) || later) (sym taken.reply_is);
-    }
-
--- a line whose reply was written in part
-pub line_stopped : (bytes rest line after : List ℕ) (before held held' : Option (List ℕ)) (session : Session) (refused : Bool) → (p : Progress bytes rest before held session refused) → lines_of rest ≡ line ∷ lines_of after → AppendsFront held held' (text_of (answer_of p.state line).printed) → AppendsFront before held' (reply_to start bytes)
-line_stopped bytes rest line after before held held' session refused p cut (front, more, is, appends) =
-    let later = reply_to (answer_of p.state line).next after in (
-      p.written ++ front,
-      more ++ later,
-      p.output ∙ ap (λ l. p.written ++ l) (next_output p.state rest line after cut) ∙ ap (λ l. p.written ++ (l ++ later)) is ∙ regroup p.written front more later,
-      Appends-trans before held held' p.written front p.writes appends,
-    )
+-- the source may give what a call took of it
+pub can_take : (lines : Taking) (bytes : List ℕ) → (bytes ≡ []) ⊎ IsAskedFor lines bytes → CanFollow lines bytes
+can_take lines bytes (inl none) = λ ended. none
+can_take lines bytes (inr asked) = λ ended. absurd (both lines.ended ended asked.not_ended)
   where
-    regroup : (a b c d : List ℕ) → a ++ ((b ++ c) ++ d) ≡ (a ++ b) ++ (c ++ d)
-    regroup a b c d = simp append_assoc
+    both : (b : Bool) → b ≡ true → b ≡ false → ⊥
+    both b is other = grind (arith, is, other)
 
--- the end
-nothing_left : (state : State) → reply_to state [] ≡ []
-unfolding printed_from
-nothing_left state = refl
+module _ (course : Course) (limit : ℕ) (lines after : Taking) (Goes : Course → Type 0) (first left left_after before held : Option (List ℕ)) (p : Progress course limit lines Goes first left before held) (bytes : List ℕ) (consumes : Consumes left left_after bytes) (takes : taking.Takes lines after bytes) where
+  -- what was taken in all
+  pub all_taken : List ℕ
+  all_taken = p.taken ++ bytes
 
-none_refused : (state : State) → has_refusal state (lines_of []) ≡ false
-unfolding has_refusal
-none_refused state = refl
+  pub all_consumed : Consumes first left_after all_taken
+  unfolding all_taken
+  all_consumed = Consumes-trans first left left_after p.taken bytes p.consumes consumes
 
-pub all_written : (bytes rest : List ℕ) (before held : Option (List ℕ)) (session : Session) (refused : Bool) → Progress bytes rest before held session refused → rest ≡ [] → Appends before held (reply_to start bytes)
-all_written bytes rest before held session refused p none =
-    subst (λ (out : List ℕ). Appends before held out) (sym (p.output ∙ ap (λ l. p.written ++ reply_to p.state l) none ∙ ap (λ l. p.written ++ l) (nothing_left p.state) ∙ append-nil p.written)) p.writes
+  pub all_counted : after.taken ≡ length all_taken
+  unfolding all_taken
+  all_counted = count lines.taken after.taken p.taken bytes p.counted takes.counted
+    where
+      count : (a b : ℕ) (xs ys : List ℕ) → a ≡ length xs → b ≡ a + length ys → b ≡ length (xs ++ ys)
+      count a b xs ys e f = grind (arith, common_steps)
 
-pub all_told : (bytes rest : List ℕ) (before held : Option (List ℕ)) (session : Session) (refused : Bool) → Progress bytes rest before held session refused → rest ≡ [] → refused ≡ has_refusal start (lines_of bytes)
-all_told bytes rest before held session refused p none =
-    sym (p.refusal ∙ ap (λ l. refused || has_refusal p.state (lines_of l)) none ∙ ap (λ b. refused || b) (none_refused p.state) ∙ or_false refused)
-  where
-    or_false : (b : Bool) → (b || false) ≡ b
-    or_false true = refl
-    or_false false = refl
+  -- the lines of what was taken are those that were given and those that were left
+  pub all_lines : cut_lines_of limit all_taken ≡ p.given ++ lines_left lines bytes
+  unfolding all_taken
+  all_lines = p.gives bytes (can_take lines bytes takes.asked)
+
+  -- nothing more was written
+  pub stopped_reading : AppendsFront before held (course.text (cut_lines_of limit all_taken))
+  stopped_reading = (p.written, p.next.text (lines_left lines bytes), ap course.text all_lines ∙ p.text (lines_left lines bytes), p.writes)
+
+  -- a fault of the source while no whole line was held
+  pub stopped_between : StopsBetween lines bytes → Appends before held (course.meanwhile (map (take limit) (whole_lines_of all_taken)))
+  unfolding all_taken
+  stopped_between stop =
+      let follows : (rest : List ℕ) → cut_lines_of limit (p.taken ++ rest) ≡ p.given ++ cut_lines_of limit (lines.held ++ rest) = λ rest. p.gives rest (λ ended. absurd (both lines.ended ended stop.not_ended)) ∙ ap (λ n. p.given ++ cut_lines_of n (lines.held ++ rest)) p.limit_is in
+      let whole = whole_lines_given limit p.taken lines.held bytes p.given follows stop.no_line in
+      subst (λ (l : List ℕ). Appends before held l) (sym (ap course.meanwhile (sym whole ∙ sym (append-nil p.given)) ∙ p.meanwhile [] ∙ ap (λ l. p.written ++ l) p.silent ∙ append-nil p.written)) p.writes
+    where
+      both : (b : Bool) → b ≡ true → b ≡ false → ⊥
+      both b is other = grind (arith, is, other)
+
+  -- no line is left, and the rest is what is written at the end
+  end_text : GivesNone lines after bytes → course.text (cut_lines_of limit all_taken) ≡ p.written ++ p.next.text []
+  end_text none = ap course.text (all_lines ∙ ap (λ l. p.given ++ l) none.none) ∙ p.text []
+
+  pub end_written : (held_after : Option (List ℕ)) → GivesNone lines after bytes → Appends held held_after (p.next.text []) → Appends before held_after (course.text (cut_lines_of limit all_taken))
+  end_written held_after none appends = subst (λ (l : List ℕ). Appends before held_after l) (sym (end_text none)) (Appends-trans before held held_after p.written (p.next.text []) p.writes appends)
+
+  pub end_refused : GivesNone lines after bytes → course.refuses (cut_lines_of limit all_taken) ≡ p.next.refuses []
+  end_refused none = ap course.refuses (all_lines ∙ ap (λ l. p.given ++ l) none.none) ∙ p.refuses []
+
+  pub end_stopped : (held_after : Option (List ℕ)) → GivesNone lines after bytes → AppendsFront held held_after (p.next.text []) → AppendsFront before held_after (course.text (cut_lines_of limit all_taken))
+  end_stopped held_after none (front, more, is, appends) = (
+    p.written ++ front,
+    more,
+    end_text none ∙ ap (λ l. p.written ++ l) is ∙ sym (append_assoc p.written front more),
+    Appends-trans before held held_after p.written front p.writes appends,
+  )
+
+  -- a line was given, and its reply was written in part
+  pub line_stopped : (held_after : Option (List ℕ)) (line : List ℕ) → GivesLine lines after bytes line → AppendsFront held held_after (p.next.text (line ∷ lines_left after [])) → AppendsFront before held_after (course.text (cut_lines_of limit all_taken))
+  line_stopped held_after line gives (front, more, is, appends) =
+      let left_lines : lines_left lines bytes ≡ line ∷ lines_left after [] = ap (lines_left lines) (sym (append-nil bytes)) ∙ gives [] (λ ended. refl) in (
+        p.written ++ front,
+        more,
+        ap course.text (all_lines ∙ ap (λ l. p.given ++ l) left_lines) ∙ p.text (line ∷ lines_left after []) ∙ ap (λ l. p.written ++ l) is ∙ sym (append_assoc p.written front more),
+        Appends-trans before held held_after p.written front p.writes appends,
+      )
+
+  -- a line was given, and its reply was written
+  pub line_done : (GoesOn : Course → Type 0) (held_after : Option (List ℕ)) (line : List ℕ) (next : Course) (written : List ℕ) → GivesLine lines after bytes line → GoesOn next → Appends held held_after written → Takes p.next next line written → Progress course limit after GoesOn first left_after before held_after
+  unfolding all_taken
+  line_done GoesOn held_after line next written gives goes appends took = record {
+    next = next;
+    goes = goes;
+    taken = all_taken;
+    consumes = all_consumed;
+    counted = all_counted;
+    limit_is = takes.limit ∙ p.limit_is;
+    given = p.given ++ (line ∷ []);
+    gives = λ rest can. ap (cut_lines_of limit) (append_assoc p.taken bytes rest) ∙ p.gives (bytes ++ rest) (can_more rest can) ∙ ap (λ l. p.given ++ l) (gives rest can) ∙ sym (append_assoc p.given (line ∷ []) (lines_left after rest));
+    written = p.written ++ written;
+    writes = Appends-trans before held held_after p.written written p.writes appends;
+    text = λ more. ap course.text (append_assoc p.given (line ∷ []) more) ∙ p.text (line ∷ more) ∙ ap (λ l. p.written ++ l) (took.text more) ∙ sym (append_assoc p.written written (next.text more));
+    meanwhile = λ more. ap course.meanwhile (append_assoc p.given (line ∷ []) more) ∙ p.meanwhile (line ∷ more) ∙ ap (λ l. p.written ++ l) (took.meanwhile more) ∙ sym (append_assoc p.written written (next.meanwhile more));
+    refuses = λ more. ap course.refuses (append_assoc p.given (line ∷ []) more) ∙ p.refuses (line ∷ more) ∙ took.refuses more;
+    silent = took.silent;
+  }
+    where
+      can_more : (rest : List ℕ) → CanFollow after rest → CanFollow lines (bytes ++ rest)
+      can_more rest can ended = ap (λ l. l ++ rest) (can_take lines bytes takes.asked ended) ∙ can (takes.ended ended)

@@ -6,7 +6,8 @@ use Rattle.geo_session.specs.Printed.{AreTrue}
 use Rattle.geo_app.specs.declared.program.Outcome.{Outcome}
 use Rattle.geo_app.specs.declared.program.Outcome.TheVariants.{Done, SomeRefused, Usage, ReadFault, WriteFault, TooLong, NoMemory}
 use Rattle.geo_app.specs.declared.task.Task.{Task}
-use Rattle.geo_app.specs.Output.{output_of, printed, HasRefusal}
+use Rattle.geo_app.specs.declared.task.Task.TheVariants.{Run, Generate}
+use Rattle.geo_app.specs.Output.{output_of, output_at_fault, printed, HasRefusal}
 
 -- the exit status of an outcome
 abbrev pub status_of : Outcome → ℕ
@@ -26,14 +27,21 @@ IsAnswered outcome = (outcome ≡ Done) ⊎ (outcome ≡ SomeRefused)
 abbrev pub IsStopped : Outcome → Type 0
 IsStopped outcome = (outcome ≡ ReadFault) ⊎ ((outcome ≡ WriteFault) ⊎ ((outcome ≡ TooLong) ⊎ (outcome ≡ NoMemory)))
 
+-- what there is to read was read to its end: a generated script is not read
+abbrev pub IsReadToEnd : Task → Option (List ℕ) → Type 0
+IsReadToEnd Run left = IsAtEnd left
+IsReadToEnd (Generate seed) left = Unit {0}
+
 -- the headline: what the program did with the bytes that it took. The source has `left`
 -- left, and the sink held `before` and holds `after`, each where it tells
 pub record Headline (task : Task) (outcome : Outcome) (taken : List ℕ) (left before after : Option (List ℕ)) : Type 0 where
   -- Done or SomeRefused: all was read, the whole output was written, and it is SomeRefused
   -- exactly where a line was refused
-  pub answered : IsAnswered outcome → IsAtEnd left × Appends before after (output_of task taken) × ((outcome ≡ SomeRefused) ↔ HasRefusal task taken)
+  pub answered : IsAnswered outcome → IsReadToEnd task left × Appends before after (output_of task taken) × ((outcome ≡ SomeRefused) ↔ HasRefusal task taken)
   -- ReadFault, WriteFault, TooLong or NoMemory: a front part of the output was written
   pub stopped : IsStopped outcome → AppendsFront before after (output_of task taken)
+  -- ReadFault: the replies to the whole lines that were taken were written, and nothing else
+  pub read_fault : (outcome ≡ ReadFault) → Appends before after (output_at_fault task taken)
   -- TooLong: exactly where more than 2^24 bytes were taken
   pub too_long : (outcome ≡ TooLong) ↔ (2 ^ 24 < length taken)
   -- whatever the outcome is, every verdict in the output is true

@@ -2,15 +2,27 @@
 //! draws.
 #![tactic(auto)]
 
+mod carrying;
+#[cfg(test)]
+mod failing;
+#[cfg(test)]
+mod gates;
+mod generated;
 #[cfg(test)]
 mod ledgers;
+mod long_lines;
 mod program;
 #[cfg(test)]
 mod rows;
 mod script;
+#[cfg(test)]
+mod steps;
 mod task;
+#[cfg(test)]
+mod words;
 
 use geo_io::{ReadSource, WriteSink};
+use geo_settle::OpenGate;
 use program::{Outcome, run_program};
 use std::env;
 use std::io::ErrorKind;
@@ -21,7 +33,7 @@ fn main(rt: HostRuntime) -> ExitCode {
         Ok(words) => {
             let mut source = ReadSource::new(rt.stdin());
             let mut sink = WriteSink::new(rt.stdout());
-            run_program(rt.alloc(), &words, &mut source, &mut sink)
+            run_program(&rt, rt.alloc(), &words, &mut source, &mut sink, &OpenGate)
         }
         Err(outcome) => outcome,
     };

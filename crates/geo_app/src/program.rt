@@ -1,18 +1,23 @@
 //! The whole program, from the words and the bytes that are read to the bytes
 //! that are written.
 
-ghost use Rattle.std.specs.Prelude.{◌≡◌, ◌≢◌, ℕ, List, ◌≤◌, ◌^◌, ◌↔◌, ◌⊎◌, length, None, Some};
+ghost use Rattle.std.specs.Prelude.{◌≡◌, ◌≢◌, ℕ, List, [], Option, ◌<◌, ◌≤◌, ◌^◌, ◌↔◌, ◌⊎◌, length, None, Some};
 ghost use Rattle.geo_io.specs.Faults.{Rose};
 ghost use Rattle.geo_io.specs.Pieces.{Takes};
 ghost use Rattle.geo_app.specs.declared.task.Task.{Task as Aim};
 ghost use Rattle.geo_app.specs.Outcomes.{status_of, Headline, IsAnswered, IsStopped};
 ghost use Rattle.geo_app.specs.Tasks.{task_of};
 
-use crate::script::run_script;
-use crate::task::{Task, task_of};
-use geo_io::{LineEnd, Sink, SinkEnd, Source, SureSink, SureSource, read_all};
+use crate::carrying::carry_out;
+use crate::generated::run_generated;
+use crate::long_lines::long_lines_are_answered_alike;
+use crate::script::Script;
+use crate::task::{Task, request_of};
+use geo_io::{Sink, SinkEnd, Source, SureSink, SureSource};
 use geo_session::printed_verdicts_are_true;
+use geo_settle::Gate;
 use std::alloc::Global;
+use std::thread::Threads;
 
 /// How the program ends; the exit statuses are 0 to 6 in this order.
 #[derive(Clone, Copy, PartialEq, Eq, Debug)]
@@ -51,61 +56,98 @@ impl Outcome {
     }
 }
 
-/// Runs the program on the words of its command line, without its own name: reads
-/// a script from the source, carries out each of its lines and writes the replies
-/// to the sink.
-pub fn run_program<S: Source, K: Sink>(
+/// Runs the program on the words of its command line, without its own name: carries out
+/// the task that they set, reads what it needs from the source, and writes the replies to
+/// the sink.
+pub fn run_program<R: Threads + Sync, S: Source, K: Sink, G: Gate + Sync>(
+    rt: &R,
     alloc: Global,
     words: &[String],
     source: &mut S,
     sink: &mut K,
+    gate: &G,
 ) -> Outcome
     ensures headline { (task : Aim) → task_of words.now ≡ Some task → Takes (S.left source.old) (S.left source.new) (λ taken. Headline task result taken (S.left source.new) (K.held sink.old) (K.held sink.new)) }
     ensures usage { (result ≡ Outcome.Usage) ↔ (task_of words.now ≡ None) }
     ensures untouched { result ≡ Outcome.Usage → (source.new ≡ source.old) × (sink.new ≡ sink.old) }
     ensures read_fault { result ≡ Outcome.ReadFault → Rose (S.fault_count source.old) (S.fault_count source.new) }
     ensures write_fault { result ≡ Outcome.WriteFault → Rose (K.fault_count sink.old) (K.fault_count sink.new) }
+    ensures generated { (seed : ℕ) → task_of words.now ≡ Some (Aim.Generate seed) → (source.new ≡ source.old) × ((result ≡ Outcome.Done) ⊎ ((result ≡ Outcome.WriteFault) ⊎ (result ≡ Outcome.NoMemory))) }
     ensures complete { (task : Aim) (bytes : List ℕ) → task_of words.now ≡ Some task → S.left source.old ≡ Some bytes → length bytes ≤ 2 ^ 24 → ¬ Rose (S.fault_count source.old) (S.fault_count source.new) → ¬ Rose (K.fault_count sink.old) (K.fault_count sink.new) → IsAnswered result ⊎ (result ≡ Outcome.NoMemory) }
 {
-    match task_of(words) {
-        Some(Task::Run) => run(alloc, source, sink),
+    match request_of(words) {
+        Some(request) => match request.task {
+            Task::Run => run(rt, alloc, request.workers, source, sink, gate),
+            Task::Generate(seed) => generate(rt, alloc, seed, request.workers, sink, gate),
+        },
         None => Outcome::Usage,
     }
 }
 
 /// Runs the program over memory, where no fault can rise.
-pub fn run_in_memory(
+pub fn run_in_memory<R: Threads + Sync, G: Gate + Sync>(
+    rt: &R,
     alloc: Global,
     words: &[String],
     source: &mut SureSource,
     sink: &mut SureSink,
+    gate: &G,
 ) -> Outcome
     ensures headline { (task : Aim) → task_of words.now ≡ Some task → Takes (Some source.old) (Some source.new) (λ taken. Headline task result taken (Some source.new) (Some sink.old) (Some sink.new)) }
     ensures usage { (result ≡ Outcome.Usage) ↔ (task_of words.now ≡ None) }
     ensures untouched { result ≡ Outcome.Usage → (source.new ≡ source.old) × (sink.new ≡ sink.old) }
     ensures sure { (result ≢ Outcome.ReadFault) × (result ≢ Outcome.WriteFault) }
+    ensures generated { (seed : ℕ) → task_of words.now ≡ Some (Aim.Generate seed) → (source.new ≡ source.old) × ((result ≡ Outcome.Done) ⊎ (result ≡ Outcome.NoMemory)) }
     ensures complete { (task : Aim) → task_of words.now ≡ Some task → length source.old ≤ 2 ^ 24 → IsAnswered result ⊎ (result ≡ Outcome.NoMemory) }
 {
-    run_program(alloc, words, source, sink)
+    run_program(rt, alloc, words, source, sink, gate)
 }
 
-/// Reads the whole script, and then carries it out.
-fn run<S: Source, K: Sink>(alloc: Global, source: &mut S, sink: &mut K) -> Outcome
+/// The bytes of a line that are read: one more than a line may have, so that a line that is too
+/// long still is.
+const SCRIPT_LINE: usize = 201;
+
+/// Carries out each line of a script as soon as it is read.
+fn run<R: Threads + Sync, S: Source, K: Sink, G: Gate + Sync>(
+    rt: &R,
+    alloc: Global,
+    workers: u64,
+    source: &mut S,
+    sink: &mut K,
+    gate: &G,
+) -> Outcome
+    requires { (0 < workers) × (workers ≤ 16) }
     ensures headline { Takes (S.left source.old) (S.left source.new) (λ taken. Headline Task.Run result taken (S.left source.new) (K.held sink.old) (K.held sink.new)) }
     ensures ended { IsAnswered result ⊎ IsStopped result }
     ensures read_fault { result ≡ Outcome.ReadFault → Rose (S.fault_count source.old) (S.fault_count source.new) }
     ensures write_fault { result ≡ Outcome.WriteFault → Rose (K.fault_count sink.old) (K.fault_count sink.new) }
 {
     printed_verdicts_are_true();
-    match read_all(alloc, source) {
-        Ok(bytes) => match run_script(alloc, &bytes, sink) {
-            Ok(false) => Outcome::Done,
-            Ok(true) => Outcome::SomeRefused,
-            Err(SinkEnd::Failed) => Outcome::WriteFault,
-            Err(SinkEnd::NoMemory) => Outcome::NoMemory,
-        },
-        Err(LineEnd::Failed) => Outcome::ReadFault,
-        Err(LineEnd::TooLong) => Outcome::TooLong,
-        Err(LineEnd::NoMemory) => Outcome::NoMemory,
+    long_lines_are_answered_alike();
+    match Script::new(alloc, workers) {
+        Ok(mut script) => carry_out(rt, alloc, SCRIPT_LINE, &mut script, source, sink, gate),
+        Err(_) => Outcome::NoMemory,
+    }
+}
+
+/// Carries out a generated script, for which nothing is read.
+#[tactic(auto, using(crate::proofs::Tallies::one_text))]
+fn generate<R: Threads + Sync, K: Sink, G: Gate + Sync>(
+    rt: &R,
+    alloc: Global,
+    seed: u32,
+    workers: u64,
+    sink: &mut K,
+    gate: &G,
+) -> Outcome
+    requires { (0 < workers) × (workers ≤ 16) }
+    ensures headline { (left : Option (List ℕ)) → Headline (Task.Generate seed) result [] left (K.held sink.old) (K.held sink.new) }
+    ensures ended { (result ≡ Outcome.Done) ⊎ ((result ≡ Outcome.WriteFault) ⊎ (result ≡ Outcome.NoMemory)) }
+    ensures write_fault { result ≡ Outcome.WriteFault → Rose (K.fault_count sink.old) (K.fault_count sink.new) }
+{
+    match run_generated(rt, alloc, seed, workers, sink, gate) {
+        Ok(()) => Outcome::Done,
+        Err(SinkEnd::Failed) => Outcome::WriteFault,
+        Err(SinkEnd::NoMemory) => Outcome::NoMemory,
     }
 }

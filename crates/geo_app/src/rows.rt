@@ -2,6 +2,7 @@
 
 use crate::program::{Outcome, run_in_memory, run_program};
 use geo_io::{MemSink, MemSource, SureSink, SureSource};
+use geo_settle::OpenGate;
 use std::alloc::{AllocError, Global};
 
 fn bytes_of(alloc: Global, text: &[u8]) -> Result<Vec<u8>, AllocError> {
@@ -16,8 +17,13 @@ fn words(alloc: Global, word: &str) -> Result<Vec<String>, AllocError> {
     Ok(words)
 }
 
-const SCRIPTS: [(&[u8], Outcome, &[u8]); 17] = [
+const SCRIPTS: [(&[u8], Outcome, &[u8]); 19] = [
     (b"", Outcome::Done, b""),
+    (
+        b"aaaaaaaaaaaaaaaaaaaaaaaaaaaaaaaaaaaaaaaaaaaaaaaaaaaaaaaaaaaaaaaaaaaaaaaaaaaaaaaaaaaaaaaaaaaaaaaaaaaaaaaaaaaaaaaaaaaaaaaaaaaaaaaaaaaaaaaaaaaaaaaaaaaaaaaaaaaaaaaaaaaaaaaaaaaaaaaaaaaaaaaaaaaaaaaaaaaaaaaaa\n#                                                                                                                                                                                                       \nbbbbbbbbbbbbbbbbbbbbbbbbbbbbbbbbbbbbbbbbbbbbbbbbbbbbbbbbbbbbbbbbbbbbbbbbbbbbbbbbbbbbbbbbbbbbbbbbbbbbbbbbbbbbbbbbbbbbbbbbbbbbbbbbbbbbbbbbbbbbbbbbbbbbbbbbbbbbbbbbbbbbbbbbbbbbbbbbbbbbbbbbbbbbbbbbbbbbbbbb\r\nscreen",
+        Outcome::SomeRefused,
+        b"refused 1 long\nrefused 3 command\n",
+    ),
     (
         b"fixpoint A 0 0 1\nfixpoint B 4 2 1\njoin l A B\nscreen\n",
         Outcome::Done,
@@ -87,12 +93,17 @@ const SCRIPTS: [(&[u8], Outcome, &[u8]); 17] = [
     (
         b"fixpoint O 0 0 1\npoint A 1 0\npoint B 0 1\npoint C -1 -1\nalong D O A 1\nalong E O B 2\nalong F O C 3\njoin ab A B\njoin de D E\nmeet X ab de\njoin bc B C\njoin ef E F\nmeet Y bc ef\njoin ca C A\njoin fd F D\nmeet Z ca fd\nclaim collinear X Y Z\nledger\ndrag A 1000 1000\ndrag B 1000 -1000\nscreen\nledger\n",
         Outcome::Done,
-        b"ok\nok\nok\nok\nok\nok\nok\nok\nok\nok\nok\nok\nok\nok\nok\nok\nok\nproved collinear X Y Z\nok\nok\nO point 0 0 1\nA point 1000 1000 1\nB point 1000 -1000 1\nC point -1 -1 1\nD point 500 500 1\nE point 2000 -2000 3\nF point -3 -3 4\nab line -1 0 1000\nde line -7 -1 4000\nX point 1000 -3000 1\nbc line 999 1001 2000\nef line 7991 8009 12000\nY point -2003 1997 1\nca line -1 1 0\nfd line -1 1 0\nZ point null\nproved collinear X Y Z\n",
+        b"ok\nok\nok\nok\nok\nok\nok\nok\nok\nok\nok\nok\nok\nok\nok\nok\nok\nproved collinear A B X\nproved collinear D E X\nproved collinear B C Y\nproved collinear E F Y\nproved collinear A C Z\nproved collinear D F Z\nproved collinear X Y Z\nok\nok\nO point 0 0 1\nA point 1000 1000 1\nB point 1000 -1000 1\nC point -1 -1 1\nD point 500 500 1\nE point 2000 -2000 3\nF point -3 -3 4\nab line -1 0 1000\nde line -7 -1 4000\nX point 1000 -3000 1\nbc line 999 1001 2000\nef line 7991 8009 12000\nY point -2003 1997 1\nca line -1 1 0\nfd line -1 1 0\nZ point null\nproved collinear A B X\nproved collinear D E X\nproved collinear B C Y\nproved collinear E F Y\nproved collinear A C Z\nproved collinear D F Z\nproved collinear X Y Z\n",
     ),
     (
         b"point A 1000 1000\npoint B 1000 -1000\npoint C -1000 1000\npoint D 999 1000\njoin l A B\njoin m C D\nmeet X l m\njoin n X C\nscreen\n",
         Outcome::Done,
         b"ok\nok\nok\nok\nok\nok\nok\nok\nA point 1000 1000 1\nB point 1000 -1000 1\nC point -1000 1000 1\nD point 999 1000 1\nl line -1 0 1000\nm line 0 -1 1000\nX point 1000 1000 1\nn line far\n",
+    ),
+    (
+        b"point A 0 0\npoint B 1 0\npoint C 0 1\njoin l A B\njoin m A C\nmeet X l m\nundo\nconjectures\nredo\nconjectures\ndrop A\ndrop X\nconjectures\n",
+        Outcome::SomeRefused,
+        b"ok\nok\nok\nok\nok\nok\nok\nok\nsame A X\nrefused 11 used\nok\n",
     ),
 ];
 
@@ -102,10 +113,12 @@ fn answers_scripts(rt: HostRuntime) -> Result<(), AllocError> {
         let mut source = SureSource::new(bytes_of(rt.alloc(), script)?);
         let mut sink = SureSink::new(rt.alloc());
         let ended = run_in_memory(
+            &rt,
             rt.alloc(),
             &words(rt.alloc(), "run")?,
             &mut source,
             &mut sink,
+            &OpenGate,
         );
         assert_eq!(rt; sink.held(), reply);
         assert_eq!(rt; ended, outcome);
@@ -136,10 +149,12 @@ fn refuses_what_is_full(rt: HostRuntime) -> Result<(), AllocError> {
         let mut source = SureSource::new(script);
         let mut sink = SureSink::new(rt.alloc());
         let ended = run_in_memory(
+            &rt,
             rt.alloc(),
             &words(rt.alloc(), "run")?,
             &mut source,
             &mut sink,
+            &OpenGate,
         );
         assert_eq!(rt; sink.held(), want.as_slice());
         assert_eq!(rt; ended, Outcome::SomeRefused);
@@ -161,10 +176,12 @@ fn shows_an_element_with_a_large_number(rt: HostRuntime) -> Result<(), AllocErro
     let mut source = SureSource::new(script);
     let mut sink = SureSink::new(rt.alloc());
     let ended = run_in_memory(
+        &rt,
         rt.alloc(),
         &words(rt.alloc(), "run")?,
         &mut source,
         &mut sink,
+        &OpenGate,
     );
     assert_eq!(rt; sink.held(), want.as_slice());
     assert_eq!(rt; ended, Outcome::Done);
@@ -177,13 +194,15 @@ fn ends_at_a_failing_read(rt: HostRuntime) -> Result<(), AllocError> {
     let mut source = MemSource::new(script, vec![in rt.alloc(); 3]?, 8);
     let mut sink = SureSink::new(rt.alloc());
     let ended = run_program(
+        &rt,
         rt.alloc(),
         &words(rt.alloc(), "run")?,
         &mut source,
         &mut sink,
+        &OpenGate,
     );
     assert_eq!(rt; ended.status(), 3);
-    assert!(rt; b"ok\n".as_slice().starts_with(sink.held()));
+    assert_eq!(rt; sink.held(), b"ok\n".as_slice());
     Ok(())
 }
 
@@ -193,10 +212,12 @@ fn ends_at_a_failing_write(rt: HostRuntime) -> Result<(), AllocError> {
     let mut source = SureSource::new(script);
     let mut sink = MemSink::new(rt.alloc(), vec![in rt.alloc(); 2]?, 7);
     let ended = run_program(
+        &rt,
         rt.alloc(),
         &words(rt.alloc(), "run")?,
         &mut source,
         &mut sink,
+        &OpenGate,
     );
     assert_eq!(rt; ended.status(), 4);
     assert_eq!(rt; sink.held(), b"ok\n".as_slice());
@@ -208,10 +229,12 @@ fn stops_at_too_many_bytes(rt: HostRuntime) -> Result<(), AllocError> {
     let mut source = SureSource::new(vec![in rt.alloc(); b'\n'; (1 << 24) + 1]?);
     let mut sink = SureSink::new(rt.alloc());
     let ended = run_in_memory(
+        &rt,
         rt.alloc(),
         &words(rt.alloc(), "run")?,
         &mut source,
         &mut sink,
+        &OpenGate,
     );
     assert_eq!(rt; ended.status(), 5);
     assert_eq!(rt; sink.held(), b"".as_slice());
@@ -225,15 +248,17 @@ fn knows_one_word(rt: HostRuntime) -> Result<(), AllocError> {
     let mut twice = words(rt.alloc(), "run")?;
     twice.push(String::from_str(rt.alloc(), "run")?)?;
     for words in [Vec::new(rt.alloc()), words(rt.alloc(), "screen")?, twice] {
-        let ended = run_in_memory(rt.alloc(), &words, &mut source, &mut sink);
+        let ended = run_in_memory(&rt, rt.alloc(), &words, &mut source, &mut sink, &OpenGate);
         assert_eq!(rt; ended.status(), 2);
     }
     assert_eq!(rt;
         run_in_memory(
+            &rt,
             rt.alloc(),
             &words(rt.alloc(), "run")?,
             &mut source,
-            &mut sink
+            &mut sink,
+            &OpenGate,
         )
         .status(),
         0

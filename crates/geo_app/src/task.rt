@@ -1,21 +1,108 @@
 //! What the words of the command line ask for.
 
-ghost use Rattle.std.specs.Prelude.{◌≡◌};
-ghost use Rattle.geo_app.specs.Tasks.{task_of};
+ghost use Rattle.std.specs.Prelude.{◌≡◌, ◌<◌, ◌≤◌, IfSome};
+ghost use Rattle.std.specs.Char.{is_ascii_digit};
+ghost use Rattle.std.specs.List.{list_all};
+ghost use Rattle.std.specs.String.{string_bytes};
+ghost use Rattle.geo_app.specs.Tasks.{is_numeral, number_of, request_of, task_of_word, task_with_seed, with_workers, workers_in};
 
 /// What the program is to do.
 #[derive(Clone, Copy, PartialEq, Eq, Debug)]
 pub enum Task {
     /// To read a script, and to carry out each of its lines.
     Run,
+    /// To carry out the script of a seed, and to count its answers.
+    Generate(u32),
 }
 
-/// The task that the words set; none where they are none that the program knows.
-pub(crate) fn task_of(words: &[String]) -> Option<Task>
-    ensures { result ≡ task_of words.now }
+/// A task, and how many threads may work at it at once, from 1 to 16.
+#[derive(Clone, Copy, PartialEq, Eq, Debug)]
+pub struct Request {
+    pub task: Task,
+    pub workers: u64,
+}
+
+/// What the words ask for; none where they are none that the program knows.
+pub(crate) fn request_of(words: &[String]) -> Option<Request>
+    ensures request { result ≡ request_of words.now }
+    ensures few { IfSome result (λ r. (0 < r.workers) × (r.workers ≤ 16)) }
 {
     match words {
-        [word] if word.as_str() == "run" => Some(Task::Run),
+        [task] => with_workers(task_of_word(task), Some(1)),
+        [task, seed] => with_workers(task_with_seed(task, seed), Some(1)),
+        [task, option, count] if option.as_str() == "--workers" => {
+            with_workers(task_of_word(task), read_workers(count))
+        }
+        [task, seed, option, count] if option.as_str() == "--workers" => {
+            with_workers(task_with_seed(task, seed), read_workers(count))
+        }
         _ => None,
     }
+}
+
+fn with_workers(task: Option<Task>, workers: Option<u64>) -> Option<Request>
+    requires { IfSome workers (λ count. (0 < count) × (count ≤ 16)) }
+    ensures request { result ≡ with_workers task workers }
+    ensures few { IfSome result (λ r. (0 < r.workers) × (r.workers ≤ 16)) }
+{
+    Some(Request {
+        task: task?,
+        workers: workers?,
+    })
+}
+
+fn task_of_word(word: &String) -> Option<Task>
+    ensures { result ≡ task_of_word (string_bytes word.now) }
+{
+    match word.as_str() {
+        "run" => Some(Task::Run),
+        _ => None,
+    }
+}
+
+fn task_with_seed(word: &String, seed: &String) -> Option<Task>
+    ensures { result ≡ task_with_seed (string_bytes word.now) (string_bytes seed.now) }
+{
+    if word.as_str() == "gen" {
+        read_number(seed).map(|seed| Task::Generate(seed))
+    } else {
+        None
+    }
+}
+
+/// A count from 1 to 16.
+fn read_workers(word: &String) -> Option<u64>
+    ensures count { result ≡ workers_in (string_bytes word.now) }
+    ensures few { IfSome result (λ count. (0 < count) × (count ≤ 16)) }
+{
+    match read_number(word) {
+        Some(count) if (1..=16).contains(&count) => Some(u64::from(count)),
+        _ => None,
+    }
+}
+
+/// The number that a word writes, with no zero before its digits.
+fn read_number(word: &String) -> Option<u32>
+    ensures { result ≡ number_of (string_bytes word.now) }
+{
+    if is_numeral(word.as_bytes()) {
+        word.as_str().parse::<u32>().ok()
+    } else {
+        None
+    }
+}
+
+fn is_numeral(bytes: &[u8]) -> bool
+    ensures { result ≡ is_numeral bytes.now }
+{
+    match bytes {
+        [] | [b'0', _, ..] => false,
+        digits => are_digits(digits),
+    }
+}
+
+fn are_digits(bytes: &[u8]) -> bool
+    ensures { result ≡ list_all is_ascii_digit bytes.now }
+{
+    bytes.iter().all(|digit| digit.is_ascii_digit())
 }

@@ -11,8 +11,8 @@ pub trait Job: Drop {
     /// What a job is once it has run, by what it was before.
     ghost done: { Self → Self };
 
-    /// Runs the job.
-    fn run(&mut self) -> Result<(), NoMemory>
+    /// Runs the job, which may start threads of its own.
+    fn run<R: Threads + Sync>(&mut self, rt: &R) -> Result<(), NoMemory>
         ensures { OnOk result (self.new ≡ done self.old) };
 }
 
@@ -40,14 +40,14 @@ fn run_each<R: Threads + Sync, J: Job + Send>(
     ensures count { IfOk result (λ outcomes. length outcomes.items ≡ length jobs.items) }
     ensures each { IfOk result (λ outcomes. (i : ℕ) (d : Option J) (e : J) → i < length jobs.items → IfSome (slice_index_or outcomes.items i d) (λ done. done ≡ J.done (slice_index_or jobs.items i e))) }
 {
-    thread::map_vec(rt, jobs, &|job: J| run_one(job))
+    thread::map_vec(rt, jobs, &|job: J| run_one(rt, job))
 }
 
 /// The job once it has run; None where it wants memory.
-fn run_one<J: Job>(mut job: J) -> Option<J>
+fn run_one<R: Threads + Sync, J: Job>(rt: &R, mut job: J) -> Option<J>
     ensures { IfSome result (λ done. done ≡ J.done job) }
 {
-    match job.run() {
+    match job.run(rt) {
         Ok(()) => Some(job),
         Err(NoMemory) => None,
     }

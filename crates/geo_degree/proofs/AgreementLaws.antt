@@ -52,7 +52,7 @@ agree_made (Cross k m) n v w f g own s = λ i. cross_of (s.0 i) (s.1 i)
 
 module _ (es : List Element) (c : IsConstruction es) (v w : ℕ → ℤ) where
   -- the assignments agree where the degree is above 0
-  abbrev Agree : (ℕ → ℕ) → Type 0
+  abbrev pub Agree : (ℕ → ℕ) → Type 0
   Agree degree = (p : ℕ) → 0 < degree p → v p ≡ w p
 
   triples_agree : (n : ℕ) → Agree (degree_of es n) → triple_at es n v ≡ triple_at es n w
@@ -65,7 +65,7 @@ module _ (es : List Element) (c : IsConstruction es) (v w : ℕ → ℤ) where
       (both_named (λ k. (k < n) × IsLive es k × (Agree (degree_of es k) → triple_at es k v ≡ triple_at es k w)) (λ k. (p : ℕ) → 0 < degree_of es k p → 0 < by_def (degree_algebra p) n e.def (computed (degree_algebra p) es)) (λ k. triple_at es k v ≡ triple_at es k w) e.def
       (λ k r above. r.2 (λ p h. positive p (above p h))) s (named_positive e.def n (λ p. computed (degree_algebra p) es))))
 
-  parts_agree : (s : Statement) → Agree (statement_degree es s) → parts_at es s v ≡ parts_at es s w
+  pub parts_agree : (s : Statement) → Agree (statement_degree es s) → parts_at es s v ≡ parts_at es s w
   parts_agree (statement.Null n) agree = ap coordinates (triples_agree n agree)
   parts_agree (statement.Same n m) agree =
       let first = triples_agree n (λ p h. agree p (omega (arith, h))) in

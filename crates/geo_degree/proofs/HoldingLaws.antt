@@ -1,4 +1,5 @@
--- A statement holds where its parts are 0 at all values of its axes, and only there.
+-- A statement holds where its parts are 0 at all values of its axes, and only there; then they are 0 at every assignment.
+-- lemmas for other crates
 use Rattle.std.proofs.Common.{◌≡◌, sym, ap, refl, ℕ, List, [], ◌∷◌, ℤ, pos, subst, if◌then◌else◌}
 use Rattle.std.specs.Prelude.{◌==◌}
 use Rattle.std.proofs.lemmas.List.{length-map}
@@ -31,3 +32,6 @@ holds_where_zero es c s zero entries =
 
 pub holding_is_clear : (es : List Element) (s : Statement) → Holds es s → IsClear (question_of es s)
 holding_is_clear es s holds i l = zero_where_holds es s holds (point (question_of es s) i)
+
+pub zero_everywhere : (es : List Element) → IsConstruction es → (s : Statement) → Holds es s → (v : ℕ → ℤ) → AreZero (parts_at es s v)
+zero_everywhere es c s holds v = subst AreZero (sym (parts_by_axes es c s v)) (zero_where_holds es s holds (values_on (axes_of es s) v))

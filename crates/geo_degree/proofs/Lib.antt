@@ -9,6 +9,7 @@ pub mod AxisLaws
 pub mod RowLaws
 pub mod AgreementLaws
 pub mod HoldingLaws
+pub mod OverLaws
 pub mod VerdictLaws
 pub mod VerdictFunction
 pub mod StatementBlocks

@@ -1,4 +1,5 @@
 -- The coefficient lists of an element have the values of its coordinates, and are no longer than its degree allows.
+-- lemmas for other crates
 use Rattle.std.proofs.Common.{◌≡◌, ◌∙◌, ap, ap₂, refl, inl, inr, ℕ, ◌+◌, ◌*◌, ◌≤◌, max, List, [], ◌∷◌, length, ℤ, pos, negsuc, ◌+ℤ◌, ◌*ℤ◌, neg_ℤ, arith, if◌then◌else◌}
 use Rattle.std.specs.Prelude.{◌==◌, ◌||◌, false, ◌⊎◌}
 use Rattle.std.proofs.lemmas.Bool.{cond_both, eqb-true}
@@ -19,7 +20,7 @@ use Rattle.geo_sketch.specs.Statements.{coordinates, parts_at}
 use Rattle.geo_sketch.proofs.ConstructionLaws.{at_named}
 use Rattle.geo_sketch.proofs.LiveElements.{related}
 use Rattle.geo_degree.specs.Degrees.{degree_algebra, degree_of, statement_degree}
-use Rattle.geo_degree.specs.Polynomials.{Lists, of_lists, cross_of_lists, dot_of_lists, determinant_of_lists, blend_of_lists, cut_of_lists, parameter_list, list_algebra, lists_of, coordinate_lists, part_lists, values_at, AreShort, with_value}
+use Rattle.geo_degree.specs.Polynomials.{Lists, of_lists, cross_of_lists, dot_of_lists, determinant_of_lists, blend_of_lists, cut_of_lists, assignment_on, curve_algebra, lists_along, lists_of, parameter_list, coordinate_lists, part_lists, parts_along, values_at, AreShort, with_value}
 use Rattle.geo_degree.proofs.DegreeLaws.{degree_later}
 
 -- ---- values
@@ -55,19 +56,40 @@ at-cut s by x =
     let minus : value_at (multiple_of_list (negsuc 0) by) x ≡ neg_ℤ (value_at by x) = omega (arith, ints, value-multiple (negsuc 0) by x) in
     at-cross s (of_lists (pos 1 ∷ []) (pos 0 ∷ []) (multiple_of_list (negsuc 0) by)) x ∙ ap (cross_of (at s x)) (same_triple (value-constant (pos 1) x) (value-constant (pos 0) x) minus)
 
+made_value : (d : Def) (n : ℕ) (curve : ℕ → List ℤ) (x : ℤ) (f : ℕ → Lists) (g : ℕ → Triple) → AtNamed d (λ k. at (f k) x ≡ g k) → at (by_def (curve_algebra curve) n d f) x ≡ by_def (triple_algebra (assignment_on curve x)) n d g
+made_value Free n curve x f g s = same_triple refl refl (value-constant (pos 1) x)
+made_value (Fixed a b c) n curve x f g s = same_triple (value-constant a x) (value-constant b x) (value-constant c x)
+made_value (Cut k) n curve x f g s = at-cut (f k) (curve (2 * n)) x ∙ ap (λ t. cut_of t (assignment_on curve x (2 * n))) s
+made_value (Blend k m) n curve x f g s = at-blend (f k) (f m) (curve (2 * n)) x ∙ (λ i. blend_of (s.0 i) (s.1 i) (assignment_on curve x (2 * n)))
+made_value (Cross k m) n curve x f g s = at-cross (f k) (f m) x ∙ ap₂ cross_of s.0 s.1
+
+module _ (es : List Element) (c : IsConstruction es) (curve : ℕ → List ℤ) (x : ℤ) where
+  -- each coordinate is the value of its list
+  value_along : (n : ℕ) → at (lists_along es n curve) x ≡ triple_at es n (assignment_on curve x)
+  value_along =
+      related es c (curve_algebra curve) (triple_algebra (assignment_on curve x)) (λ n l t. at l x ≡ t) (λ n q. refl)
+      (λ n e q s. made_value e.def n curve x (computed (curve_algebra curve) es) (computed (triple_algebra (assignment_on curve x)) es) (at_named _ (λ k. at (lists_along es k curve) x ≡ triple_at es k (assignment_on curve x)) e.def (λ k r. r.2) s))
+
+  pub coordinates_along : (n : ℕ) → values_at (coordinate_lists (lists_along es n curve)) x ≡ coordinates (triple_at es n (assignment_on curve x))
+  coordinates_along n = ap coordinates (value_along n)
+
+  -- and so is each part of a statement
+  pub values_along : (s : Statement) → values_at (parts_along es s curve) x ≡ parts_at es s (assignment_on curve x)
+  values_along (statement.Null n) = coordinates_along n
+  values_along (statement.Same n m) = ap coordinates (at-cross (lists_along es n curve) (lists_along es m curve) x ∙ ap₂ cross_of (value_along n) (value_along m))
+  values_along (statement.On n m) = ap (λ z. z ∷ []) (value-dot (lists_along es n curve) (lists_along es m curve) x ∙ ap₂ (λ s t. dot_of s t) (value_along n) (value_along m))
+  values_along (statement.Triple n m k) =
+      ap (λ z. z ∷ []) (value-determinant (lists_along es n curve) (lists_along es m curve) (lists_along es k curve) x ∙ (λ i. determinant_of (value_along n i) (value_along m i) (value_along k i)))
+
+-- where the curve is one parameter, with all others fixed, it makes the assignment with another value of it
 value-parameter : (v : ℕ → ℤ) (p q : ℕ) (x : ℤ) → value_at (parameter_list v p q) x ≡ with_value v p x q
 value-parameter v p q x =
     cond_both (q == p) (pos 0 ∷ pos 1 ∷ []) (v q ∷ []) (λ l. value_at l x ≡ with_value v p x q)
     (λ t. value-variable x ∙ rw t refl)
     (λ t. value-constant (v q) x ∙ rw t refl)
 
-made_value : (d : Def) (n p : ℕ) (v : ℕ → ℤ) (x : ℤ) (f : ℕ → Lists) (g : ℕ → Triple) → AtNamed d (λ k. at (f k) x ≡ g k) → at (by_def (list_algebra v p) n d f) x ≡ by_def (triple_algebra (with_value v p x)) n d g
-made_value Free n p v x f g s = same_triple (value-parameter v p (2 * n) x) (value-parameter v p (2 * n + 1) x) (value-constant (pos 1) x)
-made_value (Fixed a b c) n p v x f g s = same_triple (value-constant a x) (value-constant b x) (value-constant c x)
-made_value (Cut k) n p v x f g s = at-cut (f k) (parameter_list v p (2 * n)) x ∙ ap₂ cut_of s (value-parameter v p (2 * n) x)
-made_value (Blend k m) n p v x f g s =
-    at-blend (f k) (f m) (parameter_list v p (2 * n)) x ∙ (λ i. blend_of (s.0 i) (s.1 i) (value-parameter v p (2 * n) x i))
-made_value (Cross k m) n p v x f g s = at-cross (f k) (f m) x ∙ ap₂ cross_of s.0 s.1
+on_parameter : (v : ℕ → ℤ) (p : ℕ) (x : ℤ) → assignment_on (parameter_list v p) x ≡ with_value v p x
+on_parameter v p x = λ i q. value-parameter v p q x i
 
 -- ---- lengths
 pub record AreWithin (count : ℕ) (s : Lists) : Type 0 where
@@ -120,7 +142,7 @@ length-other v p q t = rw t (omega arith)
 own_degree : (n p q : ℕ) → (q ≡ 2 * n) ⊎ (q ≡ 2 * n + 1) → q ≡ p → 1 ≤ (if 2 * n == p || 2 * n + 1 == p then 1 else 0)
 own_degree n p q h e = grind (arith, nat_tests)
 
-made_within : (d : Def) (n p : ℕ) (v : ℕ → ℤ) (f : ℕ → Lists) (g : ℕ → ℕ) → (2 * n ≡ p → AtNamed d (λ k. g k ≡ 0)) → AtNamed d (λ k. AreWithin (g k + 1) (f k)) → AreWithin (by_def (degree_algebra p) n d g + 1) (by_def (list_algebra v p) n d f)
+made_within : (d : Def) (n p : ℕ) (v : ℕ → ℤ) (f : ℕ → Lists) (g : ℕ → ℕ) → (2 * n ≡ p → AtNamed d (λ k. g k ≡ 0)) → AtNamed d (λ k. AreWithin (g k + 1) (f k)) → AreWithin (by_def (degree_algebra p) n d g + 1) (by_def (curve_algebra (parameter_list v p)) n d f)
 made_within Free n p v f g own s = record {
   a = length-parameter v p (2 * n) _ (own_degree n p (2 * n) (inl refl));
   b = length-parameter v p (2 * n + 1) _ (own_degree n p (2 * n + 1) (inr refl));
@@ -139,29 +161,19 @@ made_within (Blend k m) n p v f g own s =
 made_within (Cross k m) n p v f g own s = within-cross (f k) (f m) (g k) (g m) s.0 s.1
 
 module _ (es : List Element) (c : IsConstruction es) (v : ℕ → ℤ) (p : ℕ) where
-  -- each coordinate is the value of its list
-  value_of_lists : (x : ℤ) (n : ℕ) → at (lists_of es n v p) x ≡ triple_at es n (with_value v p x)
-  value_of_lists x =
-      related es c (list_algebra v p) (triple_algebra (with_value v p x)) (λ n l t. at l x ≡ t) (λ n q. refl)
-      (λ n e q s. made_value e.def n p v x (computed (list_algebra v p) es) (computed (triple_algebra (with_value v p x)) es) (at_named _ (λ k. at (lists_of es k v p) x ≡ triple_at es k (with_value v p x)) e.def (λ k r. r.2) s))
-
-  -- and no list has more entries than the degree and 1
+  -- no list has more entries than the degree and 1
   lists_within : (n : ℕ) → AreWithin (degree_of es n p + 1) (lists_of es n v p)
   lists_within =
-      related es c (list_algebra v p) (degree_algebra p) (λ n l d. AreWithin (d + 1) l) (λ n q. record { a = omega arith; b = omega arith; c = omega arith })
-      (λ n e q s. made_within e.def n p v (computed (list_algebra v p) es) (computed (degree_algebra p) es)
+      related es c (curve_algebra (parameter_list v p)) (degree_algebra p) (λ n l d. AreWithin (d + 1) l) (λ n q. record { a = omega arith; b = omega arith; c = omega arith })
+      (λ n e q s. made_within e.def n p v (computed (curve_algebra (parameter_list v p)) es) (computed (degree_algebra p) es)
       (λ own. at_named _ (λ k. degree_of es k p ≡ 0) e.def (λ k r. degree_later es c p k (omega (arith, r.0, own))) s)
       (at_named _ (λ k. AreWithin (degree_of es k p + 1) (lists_of es k v p)) e.def (λ k r. r.2) s))
 
   pub coordinate_values : (x : ℤ) (n : ℕ) → values_at (coordinate_lists (lists_of es n v p)) x ≡ coordinates (triple_at es n (with_value v p x))
-  coordinate_values x n = ap coordinates (value_of_lists x n)
+  coordinate_values x n = coordinates_along es c (parameter_list v p) x n ∙ ap (λ w. coordinates (triple_at es n w)) (on_parameter v p x)
 
   pub part_values : (x : ℤ) (s : Statement) → values_at (part_lists es s v p) x ≡ parts_at es s (with_value v p x)
-  part_values x (statement.Null n) = coordinate_values x n
-  part_values x (statement.Same n m) = ap coordinates (at-cross (lists_of es n v p) (lists_of es m v p) x ∙ ap₂ cross_of (value_of_lists x n) (value_of_lists x m))
-  part_values x (statement.On n m) = ap (λ z. z ∷ []) (value-dot (lists_of es n v p) (lists_of es m v p) x ∙ ap₂ (λ s t. dot_of s t) (value_of_lists x n) (value_of_lists x m))
-  part_values x (statement.Triple n m k) =
-      ap (λ z. z ∷ []) (value-determinant (lists_of es n v p) (lists_of es m v p) (lists_of es k v p) x ∙ (λ i. determinant_of (value_of_lists x n i) (value_of_lists x m i) (value_of_lists x k i)))
+  part_values x s = values_along es c (parameter_list v p) x s ∙ ap (parts_at es s) (on_parameter v p x)
 
   coordinates_short : (count : ℕ) (s : Lists) → AreWithin count s → AreShort count (coordinate_lists s)
   coordinates_short count s w = (w.a, (w.b, (w.c, tt)))

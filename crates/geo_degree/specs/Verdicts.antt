@@ -1,12 +1,12 @@
 -- The verdict on a statement, or on anything else that asks whether some parts are 0.
-use Rattle.std.specs.Prelude.{◌≡◌, ℕ, ◌<◌, ◌≤◌, ◌⊎◌, ℤ, pos, List, [], ◌∷◌, slice_index_or}
+use Rattle.std.specs.Prelude.{◌≡◌, ℕ, ◌<◌, ◌≤◌, ◌⊎◌, ℤ, pos, List, [], ◌∷◌, length, slice_index_or}
 use Rattle.geo_sketch.specs.declared.elements.Element.{Element}
 use Rattle.geo_sketch.specs.declared.statements.Statement.{Statement}
 use Rattle.geo_sketch.specs.declared.verdicts.Past.{Past}
 use Rattle.geo_sketch.specs.declared.verdicts.Past.TheVariants.{Size, Height}
 use Rattle.geo_sketch.specs.declared.verdicts.Verdict.{Verdict}
 use Rattle.geo_sketch.specs.declared.verdicts.Verdict.TheVariants.{Proved, False, Unsettled}
-use Rattle.geo_sketch.specs.Assignments.{element_of_parameter}
+use Rattle.geo_sketch.specs.Assignments.{element_of_parameter, first_parameter, second_parameter}
 use Rattle.geo_sketch.specs.Heights.{statement_height}
 use Rattle.geo_sketch.specs.Samples.{sample_count}
 use Rattle.geo_sketch.specs.Statements.{Holds, parts_at}
@@ -57,22 +57,46 @@ IsSampleVerdict q (Unsettled past) = IsZeroAtSamples q × IsPast q past
 abbrev pub IsVerdict : Question → Type 0 → Verdict → Type 0
 IsVerdict q holds r = (IsWithinLimits q × IsGridVerdict q holds r) ⊎ ((¬ IsWithinLimits q) × IsSampleVerdict q r)
 
--- ---- of a statement, where every parameter that is no axis is 0
-abbrev pub statement_parts : List Element → Statement → List ℤ → List ℤ
-statement_parts es s xs = parts_at es s (at_axes (pos 0) (axes_of es s) xs)
+-- ---- of a statement over any axes, where every parameter that is no axis is 0
+abbrev pub parts_over : List Element → Statement → List Axis → List ℤ → List ℤ
+parts_over es s axes xs = parts_at es s (at_axes (pos 0) axes xs)
 
-abbrev pub statement_height_at : List Element → Statement → List ℕ → ℕ
-statement_height_at es s magnitudes = statement_height es s (at_axes 0 (axes_of es s) magnitudes)
+abbrev pub height_over : List Element → Statement → List Axis → List ℕ → ℕ
+height_over es s axes magnitudes = statement_height es s (at_axes 0 axes magnitudes)
 
 -- of part k, in the axis at a place
-abbrev pub statement_coefficients : List Element → Statement → List ℤ → ℕ → ℕ → List ℤ
-statement_coefficients es s xs k place =
-    slice_index_or (part_lists es s (at_axes (pos 0) (axes_of es s) xs) (slice_index_or (axes_of es s) place (axis 0 0)).param) k []
+abbrev pub coefficients_over : List Element → Statement → List Axis → List ℤ → ℕ → ℕ → List ℤ
+coefficients_over es s axes xs k place =
+    slice_index_or (part_lists es s (at_axes (pos 0) axes xs) (slice_index_or axes place (axis 0 0)).param) k []
 
 -- of part k, in the two axes at a pair of places, which are the parameters of one element
+abbrev pub table_over : List Element → Statement → List Axis → List ℤ → ℕ → ℕ × ℕ → List (List ℤ)
+table_over es s axes xs k p =
+    slice_index_or (part_tables es s (at_axes (pos 0) axes xs) (element_of_parameter (slice_index_or axes p.0 (axis 0 0)).param)) k []
+
+-- the axes at the two places are the parameters of one element
+abbrev pub ArePaired : List Axis → ℕ × ℕ → Type 0
+ArePaired axes p =
+    (p.0 < length axes) × (p.1 < length axes)
+    × ((m : ℕ) × ((slice_index_or axes p.0 (axis 0 0)).param ≡ first_parameter m) × ((slice_index_or axes p.1 (axis 0 0)).param ≡ second_parameter m))
+
+-- the parameter is one of the axes
+abbrev pub IsAmong : List Axis → ℕ → Type 0
+IsAmong [] p = ⊥
+IsAmong (a ∷ axes) p = (a.param ≡ p) ⊎ IsAmong axes p
+
+-- ---- of a statement over its own axes
+abbrev pub statement_parts : List Element → Statement → List ℤ → List ℤ
+statement_parts es s xs = parts_over es s (axes_of es s) xs
+
+abbrev pub statement_height_at : List Element → Statement → List ℕ → ℕ
+statement_height_at es s magnitudes = height_over es s (axes_of es s) magnitudes
+
+abbrev pub statement_coefficients : List Element → Statement → List ℤ → ℕ → ℕ → List ℤ
+statement_coefficients es s xs k place = coefficients_over es s (axes_of es s) xs k place
+
 abbrev pub statement_table : List Element → Statement → List ℤ → ℕ → ℕ × ℕ → List (List ℤ)
-statement_table es s xs k p =
-    slice_index_or (part_tables es s (at_axes (pos 0) (axes_of es s) xs) (element_of_parameter (slice_index_or (axes_of es s) p.0 (axis 0 0)).param)) k []
+statement_table es s xs k p = table_over es s (axes_of es s) xs k p
 
 abbrev pub question_of : List Element → Statement → Question
 question_of es s = record {

@@ -1,8 +1,9 @@
 //! Laws of degrees and grids: functions that do nothing, whose contracts are the laws.
 
-ghost use Rattle.std.specs.Prelude.{◌≡◌, ℕ, ◌+◌, ◌<◌, ◌≤◌, ◌↔◌, ℤ, unsigned_abs, Some, List, length, map, All, AllPairs, Contains};
+ghost use Rattle.std.specs.Prelude.{◌≡◌, ℕ, ◌+◌, ◌<◌, ◌≤◌, ◌↔◌, suc, ℤ, pos, unsigned_abs, Some, List, length, map, slice_index_or, slice_set, All, AllPairs, Contains};
 ghost use Rattle.std.specs.List.{AllZip};
-ghost use Rattle.geo_law.specs.Coefficients.{AreDistinct};
+ghost use Rattle.geo_law.specs.Coefficients.{AreDistinct, value_at};
+ghost use Rattle.geo_law.specs.Tables.{IsTriangle, value_of_table};
 ghost use Rattle.geo_sketch.specs.declared.elements.Def.TheVariants.{Free};
 ghost use Rattle.geo_sketch.specs.declared.elements.Element.{Element as Entry};
 ghost use Rattle.geo_sketch.specs.declared.statements.Statement.{Statement as Posed};
@@ -11,17 +12,17 @@ ghost use Rattle.geo_sketch.specs.Assignments.{first_parameter, second_parameter
 ghost use Rattle.geo_sketch.specs.Sketches.{Drawing, IsDrawn, IsPosed, parameter_limit};
 ghost use Rattle.geo_sketch.specs.Lookups.{numbered};
 ghost use Rattle.geo_sketch.specs.Triples.{triple_at};
-ghost use Rattle.geo_sketch.specs.Statements.{coordinates, parts_at, Holds};
+ghost use Rattle.geo_sketch.specs.Statements.{coordinates, parts_at, AreZero, Holds};
 ghost use Rattle.geo_degree.specs.declared.grids.Axis.{Axis as GridAxis};
 ghost use Rattle.geo_degree.specs.declared.grids.Block.{Block as GridBlock};
 ghost use Rattle.geo_degree.specs.Blocks.{AreDigits, point_count, points_of, points_of_all, rank};
 ghost use Rattle.geo_degree.specs.Degrees.{degree_of, element_degree_limit, statement_degree, statement_degree_limit};
 ghost use Rattle.geo_degree.specs.Grids.{axes_of, axis, axis_values, grid_point, grid_size, grid_value, values_on};
 ghost use Rattle.geo_degree.specs.PairPolynomials.{AreTriangles, coordinate_tables, part_tables, tables_of, values_of_tables, with_pair};
-ghost use Rattle.geo_degree.specs.Polynomials.{AreShort, coordinate_lists, lists_of, part_lists, values_at, with_value};
+ghost use Rattle.geo_degree.specs.Polynomials.{AreShort, assignment_on, coordinate_lists, lists_of, part_lists, parts_along, values_at, with_value};
 ghost use Rattle.geo_degree.specs.Questions.{Question, IsClear, IsForm, IsZeroEverywhere, grid_magnitudes, grid_of, point, size_limit};
 ghost use Rattle.geo_degree.specs.VerdictFunction.{verdict_of};
-ghost use Rattle.geo_degree.specs.Verdicts.{question_of, statement_parts, IsVerdict, IsStatementVerdict};
+ghost use Rattle.geo_degree.specs.Verdicts.{question_of, statement_parts, ArePaired, IsAmong, IsVerdict, IsStatementVerdict, coefficients_over, height_over, parts_over, table_over};
 
 /// In each parameter p, with all others fixed at any whole numbers, each coordinate of
 /// an element is the value of its coefficient list, which has at most as many entries
@@ -29,6 +30,12 @@ ghost use Rattle.geo_degree.specs.Verdicts.{question_of, statement_parts, IsVerd
 pub fn coordinates_are_polynomials()
     ensures values { (drawing : Drawing) (n p : ℕ) (v : ℕ → ℤ) (x : ℤ) → IsDrawn drawing → values_at (coordinate_lists (lists_of drawing.elements n v p)) x ≡ coordinates (triple_at drawing.elements n (with_value v p x)) }
     ensures lengths { (drawing : Drawing) (n p : ℕ) (v : ℕ → ℤ) → IsDrawn drawing → AreShort (degree_of drawing.elements n p + 1) (coordinate_lists (lists_of drawing.elements n v p)) }
+{}
+
+/// Along any curve, on which each parameter is a polynomial in one variable, each part of a
+/// statement is the value of its coefficient list.
+pub fn parts_are_polynomials_along_curves()
+    ensures { (drawing : Drawing) (s : Posed) (curve : ℕ → List ℤ) (x : ℤ) → IsDrawn drawing → values_at (parts_along drawing.elements s curve) x ≡ parts_at drawing.elements s (assignment_on curve x) }
 {}
 
 /// The same of each part of a statement.
@@ -73,6 +80,12 @@ pub fn axes_are_the_parameters()
 /// other parameters.
 pub fn parts_by_the_axes_alone()
     ensures { (drawing : Drawing) (s : Posed) (v : ℕ → ℤ) → IsDrawn drawing → parts_at drawing.elements s v ≡ statement_parts drawing.elements s (values_on (axes_of drawing.elements s) v) }
+{}
+
+/// Assignments that agree in all parameters in which its degree is above 0 give a
+/// statement the same parts.
+pub fn parts_by_own_parameters()
+    ensures { (drawing : Drawing) (s : Posed) (v w : ℕ → ℤ) → IsDrawn drawing → ((p : ℕ) → 0 < statement_degree drawing.elements s p → v p ≡ w p) → parts_at drawing.elements s v ≡ parts_at drawing.elements s w }
 {}
 
 /// An axis of degree d has d + 1 values, which differ.
@@ -120,6 +133,33 @@ pub fn statements_are_forms()
 /// A statement holds where its parts are 0 at all values of its axes, and only there.
 pub fn holds_by_the_axes_alone()
     ensures { (drawing : Drawing) (s : Posed) → IsDrawn drawing → Holds drawing.elements s ↔ IsZeroEverywhere (question_of drawing.elements s) }
+{}
+
+/// A statement that holds is 0 at every assignment of whole numbers, finite or not, and one
+/// that is 0 at each of them holds.
+pub fn holds_at_every_assignment()
+    ensures { (drawing : Drawing) (s : Posed) → IsDrawn drawing → Holds drawing.elements s ↔ ((v : ℕ → ℤ) → AreZero (parts_at drawing.elements s v)) }
+{}
+
+/// Over any axes whose parameters rise, each part of a statement is in each axis, with all
+/// others fixed, the value of a coefficient list with at most as many entries as its degree
+/// there and one more. In two axes that are the parameters of one element it is the value of
+/// a table whose total degree is at most the degree in the first. Its height at magnitudes
+/// that bound the values bounds it.
+pub fn parts_over_any_axes()
+    ensures agrees { (drawing : Drawing) (s : Posed) (axes : List GridAxis) (xs : List ℤ) (k place : ℕ) (x : ℤ) → IsDrawn drawing → AllPairs (λ (a b : GridAxis). a.param < b.param) axes → length xs ≡ length axes → place < length axes → slice_index_or (parts_over drawing.elements s axes (slice_set xs place x)) k (pos 0) ≡ value_at (coefficients_over drawing.elements s axes xs k place) x }
+    ensures short { (drawing : Drawing) (s : Posed) (axes : List GridAxis) (xs : List ℤ) (k place : ℕ) → IsDrawn drawing → length (coefficients_over drawing.elements s axes xs k place) ≤ statement_degree drawing.elements s (slice_index_or axes place (axis 0 0)).param + 1 }
+    ensures pairs_agree { (drawing : Drawing) (s : Posed) (axes : List GridAxis) (xs : List ℤ) (k : ℕ) (p : ℕ × ℕ) (x y : ℤ) → IsDrawn drawing → AllPairs (λ (a b : GridAxis). a.param < b.param) axes → length xs ≡ length axes → ArePaired axes p → slice_index_or (parts_over drawing.elements s axes (slice_set (slice_set xs p.0 x) p.1 y)) k (pos 0) ≡ value_of_table (table_over drawing.elements s axes xs k p) x y }
+    ensures low { (drawing : Drawing) (s : Posed) (axes : List GridAxis) (xs : List ℤ) (k : ℕ) (p : ℕ × ℕ) → IsDrawn drawing → ArePaired axes p → IsTriangle (suc (statement_degree drawing.elements s (slice_index_or axes p.0 (axis 0 0)).param)) (table_over drawing.elements s axes xs k p) }
+    ensures bounded { (drawing : Drawing) (s : Posed) (axes : List GridAxis) (xs : List ℤ) (ms : List ℕ) (k : ℕ) → IsDrawn drawing → AllZip (λ x m. unsigned_abs x ≤ m) xs ms → unsigned_abs (slice_index_or (parts_over drawing.elements s axes xs) k (pos 0)) ≤ height_over drawing.elements s axes ms }
+{}
+
+/// Where all parameters in which its degree is above 0 are among the axes, the parts of a
+/// statement are what they are at the values of the axes, with 0 for all other parameters;
+/// and it holds where they are 0 at all values of the axes, and only there.
+pub fn holds_by_any_axes()
+    ensures parts { (drawing : Drawing) (s : Posed) (axes : List GridAxis) (v : ℕ → ℤ) → IsDrawn drawing → ((p : ℕ) → 0 < statement_degree drawing.elements s p → IsAmong axes p) → parts_at drawing.elements s v ≡ parts_over drawing.elements s axes (values_on axes v) }
+    ensures holds { (drawing : Drawing) (s : Posed) (axes : List GridAxis) → IsDrawn drawing → ((p : ℕ) → 0 < statement_degree drawing.elements s p → IsAmong axes p) → Holds drawing.elements s ↔ ((xs : List ℤ) → length xs ≡ length axes → AreZero (parts_over drawing.elements s axes xs)) }
 {}
 
 /// A statement that holds is 0 at every grid point. No statement has two verdicts, and no

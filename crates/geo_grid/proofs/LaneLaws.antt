@@ -9,7 +9,7 @@ use Rattle.geo_sketch.proofs.SketchLaws.{constructed}
 use Rattle.geo_height.proofs.HeightLaws.{heights_grow}
 use Rattle.geo_degree.specs.declared.grids.Axis.{Axis}
 use Rattle.geo_degree.specs.Grids.{at_axes, axis, axis_magnitude}
-use Rattle.geo_degree.proofs.FormLaws.{at_axes_related}
+use Rattle.geo_degree.proofs.OverLaws.{at_axes_related}
 use Rattle.geo_grid.specs.Plans.{Planned}
 use Rattle.geo_grid.specs.Values.{AgreeBefore}
 use Rattle.geo_grid.specs.Works.{AreLow, IsOnGridFrom}

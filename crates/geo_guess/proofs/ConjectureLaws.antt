@@ -85,7 +85,7 @@ module _ (drawing rest : Drawing) (n : ℕ) (w : IsWithout drawing rest n) where
           subst (λ (d : Def). AtNamed d (λ k. k ≢ n)) same
           (at_named (λ k. (k < m) × IsLive rest.elements k) (λ k. k ≢ n) x.def (λ k live p. let none : numbered rest.elements k ≡ None = ap (λ (fs : List Element). numbered fs k) w.elements ∙ rw p (gone 0 drawing.elements n w.drawn.rising) in let some = live.1.1 in cc) ((constructed rest w.rest_drawn).named m x q))
 
-  others_like : (m : ℕ) → m ≢ n → SameTriples drawing.elements (without drawing.elements n) m
+  pub others_like : (m : ℕ) → m ≢ n → SameTriples drawing.elements (without drawing.elements n) m
   others_like m ne v = values_stay (triple_algebra v) drawing.elements n w.drawn.rising (drawn_built drawing w.drawn) unnamed m ne
 
   conjecture_stays : (s : Statement) → not (speaks_of s n) ≡ true → is_conjecture drawing.elements s ≡ is_conjecture (without drawing.elements n) s

@@ -1,7 +1,7 @@
 mod CandidateLaws
 mod ConjectureLaws
 mod Filters
-mod ListedLaws
+pub mod ListedLaws
 mod LowTriples
 mod OrderLaws
-mod SampleTables
+mod SampleLaws

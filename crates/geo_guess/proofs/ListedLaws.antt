@@ -1,4 +1,5 @@
 -- What holds everywhere is listed, what is listed is posed, and duality and changes of one element.
+-- lemmas for other crates
 use Rattle.std.proofs.Common.{◌≡◌, ◌∙◌, sym, ap, subst, refl, inl, inr, ℕ, zero, suc, ◌+◌, ◌<◌, ◌==◌, ◌++◌, Bool, true, false, Option, None, Some, option_map, List, [], ◌∷◌, length, get_or, map, take, drop, ℤ, pos, arith}
 use Rattle.std.specs.Prelude.{◌&&◌, is_some, Contains, filter}
 use Rattle.std.proofs.lemmas.Bool.{cases_eq, cond_both, eq-eqb, ne_eqb}

@@ -13,7 +13,7 @@ use Rattle.geo_sketch.specs.Triples.{triple_at}
 use Rattle.geo_sketch.proofs.PlainHeightLaws.{low}
 use Rattle.geo_sketch.proofs.SketchLaws.{constructed}
 use Rattle.geo_height.proofs.HeightLaws.{fits, plain_below}
-use Rattle.geo_guess.specs.Tables.{IsLow}
+use Rattle.geo_guess.specs.Samples.{IsLow}
 
 pub zero_low : IsLow zero_triple
 zero_low = largest_bound (sizes_of zero_triple) height_limit (omega arith) (omega arith) (omega arith)

@@ -1,4 +1,5 @@
 pub mod Candidates
 pub mod Conjectures
+pub mod Guesses
 pub mod Order
-pub mod Tables
+pub mod Samples

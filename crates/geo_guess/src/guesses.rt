@@ -1,15 +1,18 @@
 //! The conjectures of a sketch, kept as elements come and leave.
 
-ghost use Rattle.std.specs.Prelude.{◌≡◌, IfOk, OnErr, OnOk, [], filter, not};
+ghost use Rattle.std.specs.Prelude.{◌≡◌, IfOk, OnErr, OnOk, filter, not};
 ghost use Rattle.geo_sketch.specs.Drops.{speaks_of};
-ghost use Rattle.geo_sketch.specs.Sketches.{Drawing};
+ghost use Rattle.geo_sketch.specs.Sketches.{blank, Drawing};
 ghost use Rattle.geo_guess.specs.Conjectures.{conjectures_of, IsWithout};
+ghost use Rattle.geo_guess.specs.Guesses.{IsGuessesOf};
+ghost use Rattle.geo_guess.specs.Samples.{AreLow, AreSamples};
 
 use crate::candidates::statements_from;
 use crate::order::put_all;
+use crate::samples::{SAMPLE_COUNT, keep, let_go, triples_in};
 use crate::scan::conjectures_naming;
-use crate::tables::sample_tables;
 use geo_sketch::{NoMemory, Sketch, Statement};
+use geo_triple::Triple;
 use std::alloc::Global;
 use std::marker::Model;
 use std::thread::Threads;
@@ -19,29 +22,32 @@ use std::thread::Threads;
 #[derive(Drop)]
 pub struct Guesses {
     list: Vec<Statement>,
+    /// The triples of the elements at the sample positions, by number.
+    samples: Vec<[Triple; SAMPLE_COUNT]>,
 }
 
 impl Model for Guesses {
-    ghost use Rattle.geo_sketch.specs.declared.statements.Statement.{Statement};
-    ghost use Rattle.std.specs.Prelude.{List};
+    ghost use Rattle.geo_guess.specs.Guesses.{Noticed};
 
-    ghost Value = { List Statement };
+    ghost Value = { Noticed };
 
-    ghost view = { λ g. g.list.items };
+    ghost view = { λ g. record { list = g.list.items; samples = g.samples.items } };
 }
 
 impl Guesses {
     /// Those of the empty sketch.
     pub fn new(alloc: Global) -> Guesses
-        ensures { result ≡ [] }
+        ensures { IsGuessesOf result blank }
     {
         Guesses {
             list: Vec::new(alloc),
+            samples: Vec::new(alloc),
         }
     }
 
-    /// Element n was added or came back. The statements that name it are tried at the sample
-    /// positions by several threads.
+    /// Element n was added or came back. Its triples at the sample positions are found, from those
+    /// of the elements that its definition names, and the statements that name it are tried there
+    /// by several threads.
     pub fn added<R: Threads + Sync>(
         &mut self,
         rt: &R,
@@ -49,30 +55,36 @@ impl Guesses {
         sketch: &Sketch,
         n: u32,
     ) -> Result<(), NoMemory>
-        requires { (rest : Drawing) × IsWithout sketch.now rest n × (self.old ≡ conjectures_of rest.elements) }
-        ensures after { OnOk result (self.new ≡ conjectures_of sketch.now.elements) }
-        ensures unchanged { OnErr result (self.new ≡ self.old) }
+        requires { (rest : Drawing) × IsWithout sketch.now rest n × IsGuessesOf self.old rest }
+        ensures after { OnOk result (IsGuessesOf self.new sketch.now) }
+        ensures unchanged { OnErr result ((rest : Drawing) → IsWithout sketch.now rest n → IsGuessesOf self.old rest → IsGuessesOf self.new rest) }
     {
-        match list_with(rt, alloc, &self.list, sketch, n) {
+        let triples = triples_in(&self.samples, sketch, n);
+        keep(&mut self.samples, n, triples)?;
+        match list_with(rt, alloc, &self.list, sketch, &self.samples, n) {
             Ok(list) => {
                 self.list = list;
                 Ok(())
             }
-            Err(_) => Err(NoMemory),
+            Err(_) => {
+                let_go(&mut self.samples, n);
+                Err(NoMemory)
+            }
         }
     }
 
     /// Element n left, which takes no memory.
     pub fn dropped(&mut self, n: u32)
-        ensures kept { self.new ≡ filter (λ s. not (speaks_of s n)) self.old }
-        ensures after { (drawing rest : Drawing) → IsWithout drawing rest n → self.old ≡ conjectures_of drawing.elements → self.new ≡ conjectures_of rest.elements }
+        ensures kept { self.new.list ≡ filter (λ s. not (speaks_of s n)) self.old.list }
+        ensures after { (drawing rest : Drawing) → IsWithout drawing rest n → IsGuessesOf self.old drawing → IsGuessesOf self.new rest }
     {
         forget(&mut self.list, n);
+        let_go(&mut self.samples, n);
     }
 
     /// The conjectures, in their order.
     pub fn list(&self) -> &[Statement]
-        ensures { result.now ≡ self.now }
+        ensures { result.now ≡ self.now.list }
     {
         &self.list
     }
@@ -84,14 +96,16 @@ fn list_with<R: Threads + Sync>(
     alloc: Global,
     kept: &[Statement],
     sketch: &Sketch,
+    samples: &[[Triple; SAMPLE_COUNT]],
     n: u32,
 ) -> Result<Vec<Statement>, NoMemory>
-    requires { (rest : Drawing) × IsWithout sketch.now rest n × (kept.now ≡ conjectures_of rest.elements) }
+    requires without { (rest : Drawing) × IsWithout sketch.now rest n × (kept.now ≡ conjectures_of rest.elements) }
+    requires samples { AreSamples sketch.now.elements samples.now }
+    requires low { AreLow samples.now }
     ensures { IfOk result (λ list. list.items ≡ conjectures_of sketch.now.elements) }
 {
-    let tables = sample_tables(alloc, sketch)?;
     let statements = statements_from(alloc, sketch.elements(), n)?;
-    match conjectures_naming(rt, alloc, sketch, &tables, n, statements) {
+    match conjectures_naming(rt, alloc, sketch, samples, n, statements) {
         Ok(found) => put_all(alloc, kept, &found),
         Err(_) => Err(NoMemory),
     }

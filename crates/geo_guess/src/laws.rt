@@ -10,6 +10,7 @@ ghost use Rattle.geo_sketch.specs.declared.elements.Element.{Element as Entry};
 ghost use Rattle.geo_sketch.specs.declared.elements.Setting.{Setting as Values};
 ghost use Rattle.geo_sketch.specs.declared.statements.Statement.{Statement as Claim};
 ghost use Rattle.geo_guess.specs.Conjectures.{conjectures_of, is_proper, IsWithout};
+ghost use Rattle.geo_guess.specs.Guesses.{IsGuessesOf, Noticed};
 
 /// A proper statement that holds everywhere is a conjecture unless it is plain.
 pub fn what_holds_is_listed()
@@ -21,9 +22,10 @@ pub fn what_is_listed_is_posed()
     ensures { (es : List Entry) (s : Claim) → Contains (conjectures_of es) s → IsPosed es s }
 {}
 
-/// Exchanging all kinds keeps the conjectures.
+/// Exchanging all kinds keeps the conjectures, and so what is kept of them.
 pub fn dual_keeps_conjectures()
-    ensures { (es : List Entry) → conjectures_of (map exchanged es) ≡ conjectures_of es }
+    ensures conjectures { (es : List Entry) → conjectures_of (map exchanged es) ≡ conjectures_of es }
+    ensures kept { (drawing : Drawing) (noticed : Noticed) → IsGuessesOf noticed drawing → IsGuessesOf noticed (applied drawing Change.Dual) }
 {}
 
 /// An addition brings one element and a drop takes one away, and so, the other way round, where

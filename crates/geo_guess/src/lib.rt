@@ -6,8 +6,8 @@ mod candidates;
 mod guesses;
 mod laws;
 mod order;
+mod samples;
 mod scan;
-mod tables;
 mod trials;
 
 pub use guesses::Guesses;

@@ -1,27 +1,29 @@
 //! Whether a statement is a conjecture.
 
-ghost use Rattle.std.specs.Prelude.{◌≡◌, ◌<◌, ◌||◌, ◌∷◌, []};
+ghost use Rattle.std.specs.Prelude.{◌≡◌, ◌<◌, ◌||◌, ◌∷◌, [], List};
 ghost use Rattle.geo_triple.specs.Triple.{cross_of, determinant_of, dot_of};
 ghost use Rattle.geo_sketch.specs.Lookups.{kind_at};
 ghost use Rattle.geo_sketch.specs.Posing.{is_posed, of_one_kind, of_two_kinds};
 ghost use Rattle.geo_sketch.specs.Samples.{sample_count};
+ghost use Rattle.geo_sketch.specs.declared.elements.Element.{Element as Entry};
 ghost use Rattle.geo_sketch.specs.Statements.{coordinates};
 ghost use Rattle.geo_guess.specs.Conjectures.{are_together, are_zero, holds_at_samples, is_conjecture, is_nowhere, is_proper, is_zero_at};
-ghost use Rattle.geo_guess.specs.Tables.{AreTables, IsLow};
+ghost use Rattle.geo_guess.specs.Samples.{AreLow, AreSamples, IsLow};
 
-use crate::tables::{SAMPLE_COUNT, low_cross, sample_triple};
-use geo_sketch::{ELEMENT_LIMIT, Element, Kind, Sketch, Statement, find_by_number};
+use crate::samples::{SAMPLE_COUNT, low_cross, sample_of};
+use geo_sketch::{Element, Kind, Sketch, Statement, find_by_number};
 use geo_triple::{Triple, det, dot};
 
-/// Whether the statement is a conjecture of the sketch.
-pub(crate) fn is_guessed(sketch: &Sketch, tables: &[[Triple; ELEMENT_LIMIT]], s: &Statement) -> bool
-    requires { AreTables sketch.now.elements tables.now }
+/// Whether the statement is a conjecture of the sketch. Most candidates fail at the first
+/// sample position.
+pub(crate) fn is_guessed(sketch: &Sketch, samples: &[[Triple; SAMPLE_COUNT]], s: &Statement) -> bool
+    requires samples { AreSamples sketch.now.elements samples.now }
+    requires low { AreLow samples.now }
     ensures { result ≡ is_conjecture sketch.now.elements s.now }
 {
-    let elements = sketch.elements();
-    is_posed(elements, s)
-        && holds_at_samples(elements, tables, s)
-        && is_proper(elements, tables, s)
+    holds_at_samples(samples, s)
+        && is_posed(sketch.elements(), s)
+        && is_proper(samples, s)
         && !sketch.is_plain(s)
 }
 
@@ -68,106 +70,84 @@ fn are_of_two_kinds(elements: &[Element], n: u32, m: u32) -> bool
 
 /// Whether no element that is named is zero at all sample positions, and no two of three are the
 /// same there.
-fn is_proper(elements: &[Element], tables: &[[Triple; ELEMENT_LIMIT]], s: &Statement) -> bool
-    requires { AreTables elements.now tables.now }
-    ensures { result ≡ is_proper elements.now s.now }
+fn is_proper(samples: &[[Triple; SAMPLE_COUNT]], s: &Statement) -> bool
+    requires { AreLow samples.now }
+    ensures { (es : List Entry) → AreSamples es samples.now → result ≡ is_proper es s.now }
 {
     match s {
         Statement::Null(_) => true,
         Statement::Same(n, m) | Statement::On(n, m) => {
-            !(is_nowhere(elements, tables, *n) || is_nowhere(elements, tables, *m))
+            !(is_nowhere(samples, *n) || is_nowhere(samples, *m))
         }
         Statement::Triple(n, m, k) => {
-            !any_nowhere(elements, tables, *n, *m, *k)
-                && !any_together(elements, tables, *n, *m, *k)
+            !any_nowhere(samples, *n, *m, *k) && !any_together(samples, *n, *m, *k)
         }
     }
 }
 
 /// Whether one of three elements is zero at all sample positions.
-fn any_nowhere(
-    elements: &[Element],
-    tables: &[[Triple; ELEMENT_LIMIT]],
-    n: u32,
-    m: u32,
-    k: u32,
-) -> bool
-    requires { AreTables elements.now tables.now }
-    ensures { result ≡ (is_nowhere elements.now n || (is_nowhere elements.now m || is_nowhere elements.now k)) }
+fn any_nowhere(samples: &[[Triple; SAMPLE_COUNT]], n: u32, m: u32, k: u32) -> bool
+    requires { AreLow samples.now }
+    ensures { (es : List Entry) → AreSamples es samples.now → result ≡ (is_nowhere es n || (is_nowhere es m || is_nowhere es k)) }
 {
-    is_nowhere(elements, tables, n)
-        || is_nowhere(elements, tables, m)
-        || is_nowhere(elements, tables, k)
+    is_nowhere(samples, n) || is_nowhere(samples, m) || is_nowhere(samples, k)
 }
 
 /// Whether two of three elements are the same at all sample positions.
-fn any_together(
-    elements: &[Element],
-    tables: &[[Triple; ELEMENT_LIMIT]],
-    n: u32,
-    m: u32,
-    k: u32,
-) -> bool
-    requires { AreTables elements.now tables.now }
-    ensures { result ≡ (are_together elements.now n m || (are_together elements.now n k || are_together elements.now m k)) }
+fn any_together(samples: &[[Triple; SAMPLE_COUNT]], n: u32, m: u32, k: u32) -> bool
+    requires { AreLow samples.now }
+    ensures { (es : List Entry) → AreSamples es samples.now → result ≡ (are_together es n m || (are_together es n k || are_together es m k)) }
 {
-    are_together(elements, tables, n, m)
-        || are_together(elements, tables, n, k)
-        || are_together(elements, tables, m, k)
+    are_together(samples, n, m) || are_together(samples, n, k) || are_together(samples, m, k)
 }
 
-fn is_nowhere(elements: &[Element], tables: &[[Triple; ELEMENT_LIMIT]], n: u32) -> bool
-    requires { AreTables elements.now tables.now }
-    ensures { result ≡ is_nowhere elements.now n }
+fn is_nowhere(samples: &[[Triple; SAMPLE_COUNT]], n: u32) -> bool
+    requires { AreLow samples.now }
+    ensures { (es : List Entry) → AreSamples es samples.now → result ≡ is_nowhere es n }
 {
-    holds_at_samples(elements, tables, &Statement::Null(n))
+    holds_at_samples(samples, &Statement::Null(n))
 }
 
-fn are_together(elements: &[Element], tables: &[[Triple; ELEMENT_LIMIT]], n: u32, m: u32) -> bool
-    requires { AreTables elements.now tables.now }
-    ensures { result ≡ are_together elements.now n m }
+fn are_together(samples: &[[Triple; SAMPLE_COUNT]], n: u32, m: u32) -> bool
+    requires { AreLow samples.now }
+    ensures { (es : List Entry) → AreSamples es samples.now → result ≡ are_together es n m }
 {
-    holds_at_samples(elements, tables, &Statement::Same(n, m))
+    holds_at_samples(samples, &Statement::Same(n, m))
 }
 
 /// Whether all parts of the statement are 0 at all sample positions. The first one where they are
 /// not decides it.
-fn holds_at_samples(elements: &[Element], tables: &[[Triple; ELEMENT_LIMIT]], s: &Statement) -> bool
-    requires { AreTables elements.now tables.now }
-    ensures { result ≡ holds_at_samples elements.now s.now }
+fn holds_at_samples(samples: &[[Triple; SAMPLE_COUNT]], s: &Statement) -> bool
+    requires { AreLow samples.now }
+    ensures { (es : List Entry) → AreSamples es samples.now → result ≡ holds_at_samples es s.now }
 {
     let mut holds = true;
     for position in 0..SAMPLE_COUNT {
-        holds = holds && is_zero_at(elements, tables, s, position);
+        holds = holds && is_zero_at(samples, s, position);
     }
     holds
 }
 
 /// Whether all parts of the statement are 0 at a sample position.
-fn is_zero_at(
-    elements: &[Element],
-    tables: &[[Triple; ELEMENT_LIMIT]],
-    s: &Statement,
-    position: usize,
-) -> bool
-    requires tables { AreTables elements.now tables.now }
+fn is_zero_at(samples: &[[Triple; SAMPLE_COUNT]], s: &Statement, position: usize) -> bool
+    requires low { AreLow samples.now }
     requires position { position < sample_count }
-    ensures { result ≡ is_zero_at elements.now s.now position }
+    ensures { (es : List Entry) → AreSamples es samples.now → result ≡ is_zero_at es s.now position }
 {
     match s {
-        Statement::Null(n) => is_zero(&sample_triple(elements, tables, position, *n)),
+        Statement::Null(n) => is_zero(&sample_of(samples, *n, position)),
         Statement::Same(n, m) => are_same(
-            &sample_triple(elements, tables, position, *n),
-            &sample_triple(elements, tables, position, *m),
+            &sample_of(samples, *n, position),
+            &sample_of(samples, *m, position),
         ),
         Statement::On(n, m) => is_on(
-            &sample_triple(elements, tables, position, *n),
-            &sample_triple(elements, tables, position, *m),
+            &sample_of(samples, *n, position),
+            &sample_of(samples, *m, position),
         ),
         Statement::Triple(n, m, k) => are_in_line(
-            &sample_triple(elements, tables, position, *n),
-            &sample_triple(elements, tables, position, *m),
-            &sample_triple(elements, tables, position, *k),
+            &sample_of(samples, *n, position),
+            &sample_of(samples, *m, position),
+            &sample_of(samples, *k, position),
         ),
     }
 }

@@ -11,12 +11,12 @@ slice_split-None p [] none = refl
 slice_split-None p (x ∷ xs) none = grind (arith, common_steps, slice_split-None p xs)
 
 -- the first part ends at the first element that passes
-slice_split-Some : (p : ℕ → Bool) (xs : List ℕ) (n : ℕ) → position p xs ≡ Some n
+pub slice_split-Some : (p : ℕ → Bool) (xs : List ℕ) (n : ℕ) → position p xs ≡ Some n
     → slice_split p xs ≡ take n xs ∷ slice_split p (drop (n + 1) xs)
 slice_split-Some p xs n found = grind (arith, common_steps, slice_split_first)
 
 -- a part that more parts follow is a line, less a carriage return at its end
-lines_of_parts-ended : (part : List ℕ) (parts : List (List ℕ)) → 0 < length parts
+pub lines_of_parts-ended : (part : List ℕ) (parts : List (List ℕ)) → 0 < length parts
     → lines_of_parts (part ∷ parts) ≡ without_carriage_return part ∷ lines_of_parts parts
 lines_of_parts-ended part [] some = absurd (omega (arith, some))
 lines_of_parts-ended part (next ∷ parts) some = refl

@@ -1,6 +1,6 @@
 -- The lines of some bytes.
-use Rattle.std.specs.Prelude.{ℕ, ◌==◌, ◌-◌, if◌then◌else◌, List, [], ◌∷◌, length, take, slice_index}
-use Rattle.std.specs.List.{slice_split}
+use Rattle.std.specs.Prelude.{ℕ, ◌==◌, ◌-◌, Bool, if◌then◌else◌, List, [], ◌∷◌, length, take, map, slice_index}
+use Rattle.std.specs.List.{slice_split, list_any}
 
 -- a part without the one carriage return at its end, if it has one
 abbrev pub without_carriage_return : List ℕ → List ℕ
@@ -16,3 +16,15 @@ lines_of_parts (part ∷ next ∷ parts) = without_carriage_return part ∷ line
 -- the lines of some bytes: the parts into which the line feeds cut them, as lines
 abbrev pub lines_of : List ℕ → List (List ℕ)
 lines_of bytes = lines_of_parts (slice_split (λ byte. byte == 10) bytes)
+
+-- the lines that a line feed ended
+abbrev pub whole_lines_of : List ℕ → List (List ℕ)
+whole_lines_of bytes = let parts = slice_split (λ byte. byte == 10) bytes in map without_carriage_return (take (length parts - 1) parts)
+
+-- the lines, each cut to its first `limit` bytes
+abbrev pub cut_lines_of : ℕ → List ℕ → List (List ℕ)
+cut_lines_of limit bytes = map (take limit) (lines_of bytes)
+
+-- a line feed is among the bytes
+abbrev pub has_line_feed : List ℕ → Bool
+has_line_feed bytes = list_any (λ byte. byte == 10) bytes

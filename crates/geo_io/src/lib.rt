@@ -2,11 +2,13 @@
 //! some bytes.
 #![tactic(auto)]
 
+mod buffer;
 mod calls;
 mod ends;
 mod front;
 mod in_memory;
 mod line;
+mod lines;
 mod over_std;
 mod streams;
 mod sure;
@@ -15,10 +17,11 @@ mod whole;
 pub use ends::{Failed, LineEnd, NoMemory, SinkEnd};
 pub use in_memory::{MemSink, MemSource};
 pub use line::split_line;
+pub use lines::Lines;
 pub use over_std::{ReadSource, WriteSink};
 pub use streams::{Sink, Source};
 pub use sure::{SureSink, SureSource};
-pub use whole::{read_all, write_all};
+pub use whole::write_all;
 
 #[cfg(test)]
 mod tests;

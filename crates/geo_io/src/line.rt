@@ -18,13 +18,13 @@ pub fn split_line(bytes: &[u8]) -> Option<(&[u8], &[u8])>
     }
 }
 
-fn line_feed_at(bytes: &[u8]) -> Option<usize>
+pub(super) fn line_feed_at(bytes: &[u8]) -> Option<usize>
     ensures { result ≡ position (λ byte. byte == 10) bytes.now }
 {
     bytes.iter().position(|byte| *byte == b'\n')
 }
 
-fn strip_carriage_return(part: &[u8]) -> &[u8]
+pub(super) fn strip_carriage_return(part: &[u8]) -> &[u8]
     ensures { result.now ≡ without_carriage_return part.now }
 {
     match part {

@@ -1,8 +1,8 @@
 //! What no clause says: that calls succeed, and that the adapters count the faults of std.
 
 use super::{
-    Failed, LineEnd, MemSink, MemSource, ReadSource, Sink, SinkEnd, Source, SureSink, SureSource,
-    WriteSink, read_all, split_line, write_all,
+    Failed, LineEnd, Lines, MemSink, MemSource, ReadSource, Sink, SinkEnd, Source, SureSink,
+    SureSource, WriteSink, split_line, write_all,
 };
 use std::alloc::{AllocError, Global};
 use std::io;
@@ -24,11 +24,25 @@ fn bytes_of(alloc: Global, text: &str) -> Result<Vec<u8>, AllocError> {
     Ok(bytes)
 }
 
+/// The next line; None at the end, and where it is not given.
+fn next_line<S: Source>(lines: &mut Lines, source: &mut S) -> Option<Vec<u8>> {
+    if lines.taken() > 1 << 24 {
+        return None;
+    }
+    lines.next(source).unwrap_or(None)
+}
+
 #[test]
 fn reads_over_std(rt: HostRuntime) {
     let mut source = ReadSource::new(b"point A 1 2".as_slice());
-    let read = read_all(rt.alloc(), &mut source).unwrap_or(Vec::new(rt.alloc()));
-    assert_eq!(rt; read.as_slice(), b"point A 1 2".as_slice());
+    let Ok(mut lines) = Lines::new(rt.alloc(), 201) else {
+        panic!(rt; "no memory");
+    };
+    let line = lines
+        .next(&mut source)
+        .unwrap_or(None)
+        .unwrap_or(Vec::new(rt.alloc()));
+    assert_eq!(rt; line.as_slice(), b"point A 1 2".as_slice());
     assert_eq!(rt; source.faults(), 0);
 
     let mut broken = ReadSource::new(Broken);
@@ -52,8 +66,9 @@ fn writes_over_std(rt: HostRuntime) {
 #[test]
 fn never_fails_in_memory(rt: HostRuntime) -> Result<(), AllocError> {
     let mut source = SureSource::new(bytes_of(rt.alloc(), "screen\n")?);
-    let read = read_all(rt.alloc(), &mut source).unwrap_or(Vec::new(rt.alloc()));
-    assert_eq!(rt; read.as_slice(), b"screen\n".as_slice());
+    let mut buf = [0u8; 16];
+    assert_eq!(rt; source.read(&mut buf), Ok(7));
+    assert!(rt; buf.as_slice().starts_with(b"screen\n"));
     assert_eq!(rt; source.faults(), 0);
 
     let mut sink = SureSink::new(rt.alloc());
@@ -80,15 +95,64 @@ fn fails_at_the_chosen_reads(rt: HostRuntime) -> Result<(), AllocError> {
     assert!(rt; long.as_slice().starts_with(b"creen\n"));
     assert_eq!(rt; source.read(&mut long), Ok(0));
     assert_eq!(rt; source.faults(), 1);
+    Ok(())
+}
 
+/// The inputs, with the limit, and their lines.
+const INPUTS: [(&str, usize, &[&str]); 8] = [
+    ("", 9, &[]),
+    ("\n", 9, &[""]),
+    ("a\r\n\r\nb\r", 9, &["a", "", "b\r"]),
+    ("a\r\r\n\rb\n", 9, &["a\r", "\rb"]),
+    ("abcd\r\nef\n", 4, &["abcd", "ef"]),
+    ("abcd\nefghij\nkl", 3, &["abc", "efg", "kl"]),
+    (
+        "abcdefghijklmnopqrstuvwxyz\r\n\nabcdef",
+        5,
+        &["abcde", "", "abcde"],
+    ),
+    ("ab\n\n", 0, &["", ""]),
+];
+
+#[test]
+fn gives_the_lines(rt: HostRuntime) -> Result<(), AllocError> {
+    for (input, limit, want) in INPUTS {
+        for most in 1..12usize {
+            let bytes = bytes_of(rt.alloc(), input)?;
+            let mut source = MemSource::new(bytes, Vec::new(rt.alloc()), most);
+            let Ok(mut lines) = Lines::new(rt.alloc(), limit) else {
+                panic!(rt; "no memory");
+            };
+            for line in want {
+                let given = next_line(&mut lines, &mut source);
+                assert_eq!(rt;
+                    given.unwrap_or(Vec::new(rt.alloc())).as_slice(),
+                    line.as_bytes()
+                );
+            }
+            assert!(rt; next_line(&mut lines, &mut source).is_none());
+            assert!(rt; next_line(&mut lines, &mut source).is_none());
+            assert_eq!(rt; lines.taken(), input.len() as u64);
+        }
+    }
+    Ok(())
+}
+
+/// The third read fails, after the first line and the first letter of the second.
+#[test]
+fn stops_at_a_failing_read(rt: HostRuntime) -> Result<(), AllocError> {
     let bytes = bytes_of(rt.alloc(), "point A 1 2\nscreen\n")?;
     let mut source = MemSource::new(bytes, vec![in rt.alloc(); 3]?, 8);
+    let Ok(mut lines) = Lines::new(rt.alloc(), 201) else {
+        panic!(rt; "no memory");
+    };
+    let first = lines.next(&mut source).unwrap_or(None);
     assert_eq!(rt;
-        read_all(rt.alloc(), &mut source).err(),
-        Some(LineEnd::Failed)
+        first.unwrap_or(Vec::new(rt.alloc())).as_slice(),
+        b"point A 1 2".as_slice()
     );
-    let rest = read_all(rt.alloc(), &mut source).unwrap_or(Vec::new(rt.alloc()));
-    assert_eq!(rt; rest.as_slice(), b"en\n".as_slice());
+    assert_eq!(rt; lines.next(&mut source).err(), Some(LineEnd::Failed));
+    assert_eq!(rt; lines.taken(), 16);
     Ok(())
 }
 

@@ -1,4 +1,5 @@
 pub mod CoefficientLaws
+pub mod ProductLaws
 pub mod TableLaws
 pub mod TriangleLaws
 pub mod GridLaws

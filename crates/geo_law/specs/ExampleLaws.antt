@@ -1,6 +1,5 @@
 -- The laws of the small quantities of src/examples.rt.
 use Rattle.std.proofs.Common.{◌≡◌, ℕ, zero, suc, ◌<◌, List, [], ◌∷◌, length, set, ℤ, pos, Contains, arith, refl, subst}
-use Rattle.std.proofs.lemmas.Int.{ints}
 use Rattle.geo_algebra.proofs.Ring.{ring, reads}
 use Rattle.geo_law.specs.Coefficients.{value_at}
 use Rattle.geo_law.specs.Tables.{value_of_table}

@@ -3,7 +3,7 @@
 //! Each law is a function that does nothing. A coefficient list begins with the coefficient of the power 0.
 #![tactic(auto)]
 
-ghost use Rattle.std.specs.Prelude.{◌≡◌, ◌≢◌, ◌≤◌, ◌<◌, ◌+◌, ℕ, suc, max, List, [], length, ℤ, ◌+ℤ◌, ◌*ℤ◌, All, Contains, slice_set};
+ghost use Rattle.std.specs.Prelude.{◌≡◌, ◌≢◌, ◌≤◌, ◌<◌, ◌+◌, ℕ, suc, max, List, [], length, ℤ, pos, ◌+ℤ◌, ◌*ℤ◌, All, Contains, slice_set};
 ghost use Rattle.geo_law.specs.Coefficients.{value_at, sum_of_lists, product_of_lists, AreDistinct, IsZero, IsRoot, IsQuotient};
 ghost use Rattle.geo_law.specs.Tables.{value_of_table, IsTriangle, sum_of_tables, product_of_tables};
 ghost use Rattle.geo_law.specs.Grids.{HasEnoughValues, IsZeroOnGrid, IsZeroEverywhere};
@@ -57,6 +57,13 @@ pub fn divide_by_root()
 pub fn too_many_roots()
     ensures { (p roots : List ℤ) →
         AreDistinct roots → length p ≤ length roots → All (IsRoot p) roots → All IsZero p }
+{}
+
+/// Where the product of two lists is 0 everywhere and the first is not 0 at one place, the
+/// second has only entries 0.
+pub fn no_product_is_zero()
+    ensures { (p q : List ℤ) (r : ℤ) → value_at p r ≢ pos 0 →
+        ((x : ℤ) → value_at p x *ℤ value_at q x ≡ pos 0) → All IsZero q }
 {}
 
 /// A whole number for each list of whole numbers, which has one entry for each variable.

@@ -1,3 +1,4 @@
+pub mod DualLedgers
 pub mod EntryLists
 pub mod Lookups
 pub mod RisingAxes

@@ -22,7 +22,7 @@ use Rattle.geo_sketch.specs.Needs.{AtStated}
 use Rattle.geo_degree.specs.declared.grids.Axis.{Axis}
 use Rattle.geo_degree.specs.Degrees.{degree_algebra, degree_of, statement_degree}
 use Rattle.geo_degree.specs.Grids.{at_axes, axes_of, axis, parameters_of}
-use Rattle.geo_degree.specs.Polynomials.{Lists, coordinate_lists, cross_of_lists, determinant_of_lists, dot_of_lists, list_algebra, lists_of, part_lists}
+use Rattle.geo_degree.specs.Polynomials.{Lists, coordinate_lists, cross_of_lists, curve_algebra, determinant_of_lists, dot_of_lists, lists_of, parameter_list, part_lists}
 use Rattle.geo_degree.specs.PairPolynomials.{Tables, coordinate_tables, cross_of_tables, determinant_of_tables, dot_of_tables, part_tables, table_algebra, tables_of}
 use Rattle.geo_degree.specs.Questions.{Question}
 use Rattle.geo_degree.specs.VerdictFunction.{verdict_of}
@@ -41,7 +41,7 @@ pub record AreSame (es fs : List Element) (n : ℕ) : Type 0 where
   pub tables : (v : ℕ → ℤ) (m : ℕ) → tables_of es n v m ≡ tables_of fs n v m
 
 pub by_all : (es fs : List Element) (n : ℕ) → ((X : Type 0) (A : Algebra X) → computed A es n ≡ computed A fs n) → AreSame es fs n
-by_all es fs n h = record { triples = λ v. h Triple (triple_algebra v); heights = λ m. h Sizes (heights_algebra m); degrees = λ p. h ℕ (degree_algebra p); lists = λ v p. h Lists (list_algebra v p); tables = λ v m. h Tables (table_algebra v m) }
+by_all es fs n h = record { triples = λ v. h Triple (triple_algebra v); heights = λ m. h Sizes (heights_algebra m); degrees = λ p. h ℕ (degree_algebra p); lists = λ v p. h Lists (curve_algebra (parameter_list v p)); tables = λ v m. h Tables (table_algebra v m) }
 
 pub same_back : (es fs : List Element) (n : ℕ) → AreSame es fs n → AreSame fs es n
 same_back es fs n h = record { triples = λ v. sym (h.triples v); heights = λ m. sym (h.heights m); degrees = λ p. sym (h.degrees p); lists = λ v p. sym (h.lists v p); tables = λ v m. sym (h.tables v m) }

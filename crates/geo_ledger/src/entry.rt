@@ -6,7 +6,7 @@ use geo_sketch::{Statement, Verdict};
 #[derive(Drop)]
 pub struct Entry {
     pub statement: Statement,
-    /// Whether it was guessed, and not claimed.
+    /// Whether it is a conjecture, claimed or not; otherwise it is a claim alone.
     pub guessed: bool,
     pub verdict: Verdict,
 }

@@ -1,22 +1,25 @@
 //! A ledger, which keeps the verdicts that were found.
 
-ghost use Rattle.std.specs.Prelude.{◌≡◌, ◌≤◌, ◌<◌, [], Some, IsSome, filter, not, slice_get, IfOk};
+ghost use Rattle.std.specs.Prelude.{◌≡◌, ◌≤◌, ◌<◌, [], filter, not, IfOk};
 ghost use Rattle.std.specs.Borrow.{sem};
-ghost use Rattle.indexmap.specs.IndexMap.{values};
 ghost use Rattle.geo_sketch.specs.Drops.{speaks_of};
 ghost use Rattle.geo_sketch.specs.Sketches.{IsPosed};
 ghost use Rattle.geo_degree.specs.VerdictFunction.{verdict_of};
 ghost use Rattle.geo_degree.specs.Verdicts.{question_of};
+ghost use Rattle.geo_guess.specs.Guesses.{IsGuessesOf};
 ghost use Rattle.geo_ledger.specs.Ledgers.{AreKept, ledger_of};
 ghost use Rattle.geo_ledger.specs.Lending.{StaysRight};
 
-use crate::copies::copy_verdict;
 use crate::entry::Entry;
-use crate::settling::settle_in;
+use crate::keeping::{keep, verdict_at};
+use crate::listing::{list_claims, list_conjectures};
+use geo_guess::Guesses;
+use geo_settle::Gate;
 use geo_sketch::{NoMemory, Sketch, Statement, Verdict};
 use indexmap::IndexMap;
 use std::alloc::Global;
 use std::marker::Model;
+use std::thread::Threads;
 
 /// The verdicts that were found in a sketch, kept from one ledger to the next.
 /// Contracts see the kept statements with their verdicts.
@@ -48,42 +51,59 @@ impl Ledger {
         }
     }
 
-    /// The ledger of the sketch: its claims in the order of claiming, each with its
-    /// verdict, kept or found now. The number of workers has no effect yet.
-    pub fn entries(
+    /// The ledger of the sketch: its conjectures in their order, then the claims that are none of
+    /// them in the order of claiming, each with its verdict, kept or found now by so many
+    /// workers, who tell the gate of their claims.
+    pub fn entries<R: Threads + Sync, G: Gate + Sync>(
         &mut self,
+        rt: &R,
         alloc: Global,
         sketch: &Sketch,
+        guesses: &Guesses,
         workers: u64,
+        gate: &G,
     ) -> Result<&[Entry], NoMemory>
         requires workers { (0 < workers) × (workers ≤ 16) }
+        requires guesses { IsGuessesOf guesses.now sketch.now }
         requires kept { AreKept sketch.now self.old }
         ensures entries { IfOk result (λ entries. entries.now ≡ ledger_of sketch.now) }
         ensures* kept { sem 𝓛 (StaysRight sketch.now self.entry) }
     {
         self.list.clear();
-        for claim in sketch.claims() {
-            let place = keep(&mut self.kept, alloc, sketch, claim, workers)?;
-            let entry = Entry {
-                statement: *claim,
-                guessed: false,
-                verdict: copy_verdict(alloc, verdict_at(&self.kept, place))?,
-            };
-            if self.list.push(entry).is_err() {
-                return Err(NoMemory);
-            }
-        }
+        let kept = &mut self.kept;
+        list_conjectures(
+            rt,
+            kept,
+            &mut self.list,
+            alloc,
+            sketch,
+            guesses,
+            workers,
+            gate,
+        )?;
+        list_claims(
+            rt,
+            kept,
+            &mut self.list,
+            alloc,
+            sketch,
+            guesses,
+            workers,
+            gate,
+        )?;
         Ok(&self.list)
     }
 
-    /// The verdict of a statement, kept or found now. The number of workers has no effect
-    /// yet.
-    pub fn verdict(
+    /// The verdict of a statement, kept or found now by so many workers, who tell the gate of
+    /// their claims.
+    pub fn verdict<R: Threads + Sync, G: Gate + Sync>(
         &mut self,
+        rt: &R,
         alloc: Global,
         sketch: &Sketch,
         s: &Statement,
         workers: u64,
+        gate: &G,
     ) -> Result<&Verdict, NoMemory>
         requires workers { (0 < workers) × (workers ≤ 16) }
         requires posed { IsPosed sketch.now.elements s.now }
@@ -91,7 +111,7 @@ impl Ledger {
         ensures verdict { IfOk result (λ r. r.now ≡ verdict_of (question_of sketch.now.elements s.now)) }
         ensures* kept { sem 𝓛 (StaysRight sketch.now self.entry) }
     {
-        let place = keep(&mut self.kept, alloc, sketch, s, workers)?;
+        let place = keep(rt, &mut self.kept, alloc, sketch, s, workers, gate)?;
         Ok(verdict_at(&self.kept, place))
     }
 
@@ -101,42 +121,5 @@ impl Ledger {
         ensures { self.new ≡ filter (λ e. not (speaks_of e.0 n)) self.old }
     {
         self.kept.retain(|s, _| !s.names(n));
-    }
-}
-
-/// The place of a statement's verdict among those that are kept. It is found and kept where
-/// it is not there.
-fn keep(
-    kept: &mut IndexMap<Statement, Verdict>,
-    alloc: Global,
-    sketch: &Sketch,
-    s: &Statement,
-    workers: u64,
-) -> Result<usize, NoMemory>
-    requires workers { (0 < workers) × (workers ≤ 16) }
-    requires posed { IsPosed sketch.now.elements s.now }
-    requires kept { AreKept sketch.now kept.old.entries }
-    ensures kept { AreKept sketch.now kept.new.entries }
-    ensures there { IfOk result (λ place. slice_get (values kept.new) place ≡ Some (verdict_of (question_of sketch.now.elements s.now))) }
-{
-    if let Some(place) = kept.get_index_of(s) {
-        return Ok(place);
-    }
-    let verdict = settle_in(alloc, sketch, s, workers)?;
-    let place = kept.len();
-    match kept.insert(*s, verdict) {
-        Ok(_) => Ok(place),
-        Err(_) => Err(NoMemory),
-    }
-}
-
-/// The kept verdict at this place.
-fn verdict_at(kept: &IndexMap<Statement, Verdict>, place: usize) -> &Verdict
-    requires { IsSome (slice_get (values kept.now) place) }
-    ensures { slice_get (values kept.now) place ≡ Some result.now }
-{
-    match kept.get_index(place) {
-        Some((_, verdict)) => verdict,
-        None => unreachable!(),
     }
 }

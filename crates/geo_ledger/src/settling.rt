@@ -6,21 +6,24 @@ ghost use Rattle.geo_degree.specs.VerdictFunction.{verdict_of};
 ghost use Rattle.geo_degree.specs.Verdicts.{question_of};
 
 use geo_grid::Posed;
-use geo_settle::settle;
+use geo_settle::{Gate, settle};
 use geo_sketch::{NoMemory, Sketch, Statement, Verdict};
 use std::alloc::Global;
+use std::thread::Threads;
 
-/// The verdict of a statement in a sketch. The number of workers has no effect yet.
-pub(crate) fn settle_in(
+/// The verdict of a statement in a sketch, found by so many workers.
+pub(crate) fn settle_in<R: Threads + Sync, G: Gate + Sync>(
+    rt: &R,
     alloc: Global,
     sketch: &Sketch,
     s: &Statement,
     workers: u64,
+    gate: &G,
 ) -> Result<Verdict, NoMemory>
     requires workers { (0 < workers) × (workers ≤ 16) }
     requires posed { IsPosed sketch.now.elements s.now }
     ensures { IfOk result (λ r. r ≡ verdict_of (question_of sketch.now.elements s.now)) }
 {
     let posed = Posed::new(alloc, sketch, *s)?;
-    settle(alloc, &posed, workers)
+    settle(rt, alloc, &posed, workers, gate)
 }

@@ -1,29 +1,42 @@
 ghost use Rattle.geo_sketch.specs.Sketches.{IsPosed};
+ghost use Rattle.geo_guess.specs.Guesses.{IsGuessesOf};
 ghost use Rattle.geo_ledger.specs.Ledgers.{AreKept};
 
 use crate::Ledger;
 use crate::copies::copy_verdict;
+use geo_guess::Guesses;
+use geo_settle::OpenGate;
 use geo_sketch::{
     Kind, Name, NoMemory, Past, Refusal, Said, Sketch, Spec, Statement, Stop, Values, Verdict,
 };
 use std::alloc::Global;
+use std::thread::Threads;
 
 /// Asks for the ledger, lets go of an element, and asks again.
-fn ask_twice(ledger: &mut Ledger, alloc: Global, sketch: &Sketch, n: u32) -> Result<usize, NoMemory>
+fn ask_twice<R: Threads + Sync>(
+    rt: &R,
+    ledger: &mut Ledger,
+    alloc: Global,
+    sketch: &Sketch,
+    guesses: &Guesses,
+    n: u32,
+) -> Result<usize, NoMemory>
+    requires guesses { IsGuessesOf guesses.now sketch.now }
     requires kept { AreKept sketch.now ledger.old }
     ensures kept { AreKept sketch.now ledger.new }
 {
-    let _first = ledger.entries(alloc, sketch, 1)?;
+    let _first = ledger.entries(rt, alloc, sketch, guesses, 1, &OpenGate)?;
     ledger.forget(n);
-    let list = ledger.entries(alloc, sketch, 1)?;
+    let list = ledger.entries(rt, alloc, sketch, guesses, 1, &OpenGate)?;
     Ok(list.len())
 }
 
 #[test]
 fn ledger_of_no_claims(rt: HostRuntime) {
     let sketch = Sketch::new(rt.alloc());
+    let guesses = Guesses::new(rt.alloc());
     let mut ledger = Ledger::new(rt.alloc());
-    assert!(rt; ask_twice(&mut ledger, rt.alloc(), &sketch, 0) == Ok(0));
+    assert!(rt; ask_twice(&rt, &mut ledger, rt.alloc(), &sketch, &guesses, 0) == Ok(0));
 }
 
 /// A verdict that is false at three values.
@@ -84,20 +97,25 @@ fn is_false_there(verdict: &Verdict) -> bool {
 }
 
 /// Asks twice for the verdict of the statement.
-fn asked_twice(alloc: Global, sketch: &Sketch, statement: &Statement) -> Result<bool, NoMemory>
+fn asked_twice<R: Threads + Sync>(
+    rt: &R,
+    alloc: Global,
+    sketch: &Sketch,
+    statement: &Statement,
+) -> Result<bool, NoMemory>
     requires { IsPosed sketch.now.elements statement.now }
 {
     let mut ledger = Ledger::new(alloc);
-    let first = is_false_there(ledger.verdict(alloc, sketch, statement, 1)?);
-    let second = is_false_there(ledger.verdict(alloc, sketch, statement, 1)?);
+    let first = is_false_there(ledger.verdict(rt, alloc, sketch, statement, 2, &OpenGate)?);
+    let second = is_false_there(ledger.verdict(rt, alloc, sketch, statement, 2, &OpenGate)?);
     Ok(first && second)
 }
 
-fn is_triangle_false(alloc: Global) -> Result<bool, Stop> {
+fn is_triangle_false<R: Threads + Sync>(rt: &R, alloc: Global) -> Result<bool, Stop> {
     let sketch = triangle(alloc)?;
     let said = Said::Collinear(name("A")?, name("B")?, name("C")?);
     match sketch.resolve(&said) {
-        Ok(statement) => match asked_twice(alloc, &sketch, &statement) {
+        Ok(statement) => match asked_twice(rt, alloc, &sketch, &statement) {
             Ok(is_false) => Ok(is_false),
             Err(_) => Err(Stop::NoMemory),
         },
@@ -108,7 +126,7 @@ fn is_triangle_false(alloc: Global) -> Result<bool, Stop> {
 /// Three free points are in general on no line.
 #[test]
 fn verdict_on_three_free_points(rt: HostRuntime) {
-    match is_triangle_false(rt.alloc()) {
+    match is_triangle_false(&rt, rt.alloc()) {
         Ok(is_false) => assert!(rt; is_false),
         Err(_) => assert!(rt; false, "the triangle"),
     }

@@ -1,8 +1,10 @@
+mod GuessLaws
 mod KeptLaws
 mod LedgerLaws
 mod ReachedStates
 mod RefusalLaws
 mod SmallNumbers
 mod StateLaws
+mod StepLaws
 mod TogetherLaws
 mod TruthLaws

@@ -1,6 +1,6 @@
 -- In every state that a script leads to, each change leads from those before it.
 use Rattle.std.proofs.Common.{◌≡◌, ◌∙◌, sym, ap, subst, refl, ℕ, ◌++◌, Option, None, Some, List, [], ◌∷◌, length, append_assoc}
-use Rattle.std.specs.Prelude.{Result, Ok, Err, nat_le}
+use Rattle.std.specs.Prelude.{Result, Ok, Err, nat_le, codes}
 use Rattle.std.proofs.lemmas.Bool.{cond_both}
 use Rattle.geo_sketch.specs.declared.changes.Delta.{Delta}
 use Rattle.geo_sketch.specs.declared.changes.Delta.TheVariants as delta
@@ -23,7 +23,10 @@ use Rattle.geo_sketch.proofs.DualLaws.{dual_drawn}
 use Rattle.geo_parse.specs.declared.commands.Command.{Command}
 use Rattle.geo_parse.specs.declared.commands.Command.TheVariants as command
 use Rattle.geo_parse.specs.Reading.{read_of}
-use Rattle.geo_session.specs.Answers.{State, drawing_of, answer_by, answer_of, answer_to, changed, counted, done_again, last_of, taken_back_to}
+use Rattle.geo_parse.specs.Words.{words}
+use Rattle.geo_infer.specs.Derivations.{inference_of}
+use Rattle.geo_infer.specs.Words.{begins_with}
+use Rattle.geo_session.specs.Answers.{Answer, State, drawing_of, answer_beside, answer_by, answer_of, answer_to, changed, concluded, counted, done_again, is_no_command, last_of, refused, taken_back_to}
 use Rattle.geo_session.proofs.SmallNumbers.{IsSmallCommand, IsSmallRead, read_small}
 use Rattle.geo_session.proofs.StateLaws.{front_is}
 
@@ -88,11 +91,20 @@ module _ (state : State) (h : IsReached state) where
   command_reached (command.Show k) small = h
   command_reached (command.Close k) small = h
 
-  read_reached : (r : Result (Option Command) Refusal) → IsSmallRead r → IsReached (answer_by state r).next
-  read_reached (Err r) small = h
-  read_reached (Ok None) small = h
-  read_reached (Ok (Some c)) small = command_reached c small
+  concluded_reached : (r : Result Statement Refusal) → IsReached (concluded state r).next
+  concluded_reached (Err r) = h
+  concluded_reached (Ok s) = h
+
+  beside_reached : (line : List ℕ) → IsReached (answer_beside state line).next
+  beside_reached line =
+      let inferred = inference_of (drawing_of state).elements line in
+      cond_both (begins_with (codes "infer") (words line)) (concluded state inferred) (refused state refusal.Command) (λ (a : Answer). IsReached a.next) (λ t. concluded_reached inferred) (λ t. h)
+
+  read_reached : (line : List ℕ) (r : Result (Option Command) Refusal) → IsSmallRead r → IsReached (answer_by state line r).next
+  read_reached line (Err r) small = cond_both (is_no_command r) (answer_beside state line) (refused state r) (λ (a : Answer). IsReached a.next) (λ t. beside_reached line) (λ t. h)
+  read_reached line (Ok None) small = h
+  read_reached line (Ok (Some c)) small = command_reached c small
 
 pub line_reached : (state : State) (line : List ℕ) → IsReached state → IsReached (answer_of state line).next
 unfolding answer_of
-line_reached state line h = read_reached (counted state) h (read_of line) (read_small line)
+line_reached state line h = read_reached (counted state) h line (read_of line) (read_small line)

@@ -1,9 +1,11 @@
 -- An answer that refuses is the refusal, and changes nothing.
 use Rattle.std.proofs.Common.{◌≡◌, ap, List, [], ◌∷◌, ℕ}
-use Rattle.std.specs.Prelude.{Option, None, Some, Result, Ok, Err}
+use Rattle.std.specs.Prelude.{Option, None, Some, Result, Ok, Err, codes}
+use Rattle.std.proofs.lemmas.Bool.{cond_both}
 use Rattle.geo_sketch.specs.declared.changes.Delta.{Delta}
 use Rattle.geo_sketch.specs.declared.changes.Refusal.{Refusal}
 use Rattle.geo_sketch.specs.declared.changes.Refusal.TheVariants as refusal
+use Rattle.geo_sketch.specs.declared.statements.Statement.{Statement}
 use Rattle.geo_sketch.specs.Additions.{addition_of}
 use Rattle.geo_sketch.specs.Claims.{claim_of}
 use Rattle.geo_sketch.specs.Drags.{drag_of}
@@ -11,9 +13,12 @@ use Rattle.geo_sketch.specs.Drops.{drop_of}
 use Rattle.geo_parse.specs.declared.commands.Command.{Command}
 use Rattle.geo_parse.specs.declared.commands.Command.TheVariants as command
 use Rattle.geo_parse.specs.Reading.{read_of}
+use Rattle.geo_parse.specs.Words.{words}
+use Rattle.geo_infer.specs.Derivations.{inference_of}
+use Rattle.geo_infer.specs.Words.{begins_with}
 use Rattle.geo_session.specs.declared.state.Reply.{Reply}
 use Rattle.geo_session.specs.declared.state.Reply.TheVariants.{Refused}
-use Rattle.geo_session.specs.Answers.{Answer, State, drawing_of, answer_by, answer_of, answer_to, changed, counted, done_again, last_of, refused, taken_back_to}
+use Rattle.geo_session.specs.Answers.{Answer, State, drawing_of, answer_beside, answer_by, answer_of, answer_to, changed, concluded, counted, done_again, is_no_command, last_of, refused, taken_back_to}
 
 -- where an answer to a line refuses
 abbrev RefusesOnly : State → Answer → Type 0
@@ -43,18 +48,27 @@ command_refuses state (command.Drag name to) r is = change_refuses state (drag_o
 command_refuses state (command.Drop name) r is = change_refuses state (drop_of (drawing_of state) name) r is
 command_refuses state command.Undo r is = undo_refuses state (last_of state.done) r is
 command_refuses state command.Redo r is = redo_refuses state state.undone r is
-command_refuses state command.Conjectures r is = refusal_only state refusal.Command r is
+command_refuses state command.Conjectures r is = cc
 command_refuses state command.Ledger r is = cc
 command_refuses state (command.Certify said) r is = refusal_only state refusal.Command r is
 command_refuses state command.Svg r is = refusal_only state refusal.Command r is
 command_refuses state (command.Show k) r is = refusal_only state refusal.Command r is
 command_refuses state (command.Close k) r is = refusal_only state refusal.Command r is
 
-read_refuses : (state : State) (x : Result (Option Command) Refusal) → RefusesOnly state (answer_by state x)
-read_refuses state (Err x) r is = refusal_only state x r is
-read_refuses state (Ok None) r is = cc
-read_refuses state (Ok (Some c)) r is = command_refuses state c r is
+concluded_refuses : (state : State) (x : Result Statement Refusal) → RefusesOnly state (concluded state x)
+concluded_refuses state (Ok s) r is = cc
+concluded_refuses state (Err x) r is = refusal_only state x r is
+
+beside_refuses : (state : State) (line : List ℕ) → RefusesOnly state (answer_beside state line)
+beside_refuses state line =
+    let inferred = inference_of (drawing_of state).elements line in
+    cond_both (begins_with (codes "infer") (words line)) (concluded state inferred) (refused state refusal.Command) (RefusesOnly state) (λ t. concluded_refuses state inferred) (λ t. refusal_only state refusal.Command)
+
+read_refuses : (state : State) (line : List ℕ) (x : Result (Option Command) Refusal) → RefusesOnly state (answer_by state line x)
+read_refuses state line (Err x) = cond_both (is_no_command x) (answer_beside state line) (refused state x) (RefusesOnly state) (λ t. beside_refuses state line) (λ t. refusal_only state x)
+read_refuses state line (Ok None) = λ r is. cc
+read_refuses state line (Ok (Some c)) = command_refuses state c
 
 pub line_refuses : (state : State) (line : List ℕ) → RefusesOnly (counted state) (answer_of state line)
 unfolding answer_of
-line_refuses state line = read_refuses (counted state) (read_of line)
+line_refuses state line = read_refuses (counted state) line (read_of line)

@@ -81,7 +81,7 @@ pub redo_refused : (desk : Desk) (r : Refusal) → desk.history.undone ≡ [] �
 redo_refused desk r none is state stands = ap (done_again state) (sym stands.undone ∙ none) ∙ ap (refused state) (sym is)
 
 -- a line is answered at the state with one more line counted
-pub line_given : (old mid new : Desk) (line before after : List ℕ) (result : Result Reply NoMemory) → mid.sketch ≡ old.sketch → mid.history ≡ old.history → mid.count ≡ min (old.count + 1) (2 ^ 64 - 1) → IfOk result (λ r. (state : State) → IsAt mid state → Gives (answer_by state (read_of line)) r before after (IsAt new)) → IfOk result (λ r. (state : State) → IsAt old state → Gives (answer_of state line) r before after (IsAt new))
+pub line_given : (old mid new : Desk) (line before after : List ℕ) (result : Result Reply NoMemory) → mid.sketch ≡ old.sketch → mid.history ≡ old.history → mid.count ≡ min (old.count + 1) (2 ^ 64 - 1) → IfOk result (λ r. (state : State) → IsAt mid state → Gives (answer_by state line (read_of line)) r before after (IsAt new)) → IfOk result (λ r. (state : State) → IsAt old state → Gives (answer_of state line) r before after (IsAt new))
 unfolding answer_of
 line_given old mid new line before after (Err e) s history t h = tt
 line_given old mid new line before after (Ok r) s history t h = λ state stands.

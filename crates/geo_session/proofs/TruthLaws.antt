@@ -1,12 +1,14 @@
 -- What the verdict of a statement says is so, and with it every verdict that a script prints.
 use Rattle.std.proofs.Common.{◌≡◌, ◌∙◌, ap, ap₂, subst, refl, inl, inr, ℕ, suc, ◌<◌, ◌++◌, ℤ, List, [], ◌∷◌, length, map, All, AllPairs, if◌then◌else◌, arith}
-use Rattle.std.specs.Prelude.{◌==◌, false, Option, None, Some, Result, Ok, Err}
+use Rattle.std.specs.Prelude.{◌==◌, Bool, false, Option, None, Some, Result, Ok, Err, codes}
 use Rattle.std.specs.List.{AllByRecursion}
-use Rattle.std.proofs.lemmas.Bool.{cond-false, cond-true, eq-eqb, ne_eqb}
+use Rattle.std.proofs.lemmas.Bool.{cond_both, cond-false, cond-true, eq-eqb, ne_eqb}
 use Rattle.std.proofs.lemmas.List.{length-map}
+use Rattle.std.proofs.lemmas.List.Elements.{recursion_from_All}
 use Rattle.geo_sketch.proofs.SketchLaws.{constructed}
 use Rattle.geo_sketch.specs.declared.changes.Delta.{Delta}
 use Rattle.geo_sketch.specs.declared.changes.Refusal.{Refusal}
+use Rattle.geo_sketch.specs.declared.changes.Refusal.TheVariants as refusal
 use Rattle.geo_sketch.specs.declared.statements.Statement.{Statement}
 use Rattle.geo_sketch.specs.declared.verdicts.Past.TheVariants.{Size, Height}
 use Rattle.geo_sketch.specs.declared.verdicts.Verdict.{Verdict}
@@ -17,8 +19,8 @@ use Rattle.geo_sketch.specs.Claims.{claim_of}
 use Rattle.geo_sketch.specs.Drags.{drag_of}
 use Rattle.geo_sketch.specs.Drops.{drop_of}
 use Rattle.geo_sketch.specs.Samples.{sample_value}
-use Rattle.geo_sketch.specs.Sketches.{Drawing, ArePosed, IsDrawn, IsPosed}
-use Rattle.geo_sketch.specs.Statements.{AreZero, parts_at}
+use Rattle.geo_sketch.specs.Sketches.{Drawing, IsDrawn, IsPosed}
+use Rattle.geo_sketch.specs.Statements.{AreZero, Holds, parts_at}
 use Rattle.geo_degree.specs.declared.grids.Axis.{Axis}
 use Rattle.geo_degree.specs.Grids.{axes_of, values_on}
 use Rattle.geo_degree.specs.Questions.{point, sample, IsZeroAt}
@@ -28,12 +30,16 @@ use Rattle.geo_degree.proofs.AgreementLaws.{parts_by_axes}
 use Rattle.geo_degree.proofs.AxisLaws.{statement_axes_rise}
 use Rattle.geo_degree.proofs.FormLaws.{statement_form}
 use Rattle.geo_degree.proofs.QuestionLaws.{length_of_point}
-use Rattle.geo_ledger.specs.Ledgers.{entry_in}
+use Rattle.geo_ledger.specs.Ledgers.{entry_in, listed}
+use Rattle.geo_ledger.proofs.EntryLists.{lines_posed}
 use Rattle.geo_parse.specs.declared.commands.Command.{Command}
 use Rattle.geo_parse.specs.declared.commands.Command.TheVariants as command
 use Rattle.geo_parse.specs.Reading.{read_of}
+use Rattle.geo_parse.specs.Words.{words}
+use Rattle.geo_infer.specs.Derivations.{inference_of}
+use Rattle.geo_infer.specs.Words.{begins_with}
 use Rattle.geo_session.specs.declared.state.Session.{Session}
-use Rattle.geo_session.specs.Answers.{State, drawing_of, answer_by, answer_of, answer_to, changed, counted, done_again, last_of, printed_from, taken_back_to}
+use Rattle.geo_session.specs.Answers.{Answer, State, drawing_of, answer_beside, answer_by, answer_of, answer_to, changed, concluded, counted, done_again, is_no_command, last_of, printed_from, refused, taken_back_to}
 use Rattle.geo_session.specs.Printed.{Piece, LedgerLine, AreTrue, IsTruePiece, ledger_lines}
 use Rattle.geo_session.specs.Standing.{StandsFor}
 use Rattle.geo_session.specs.Truth.{IsTrue}
@@ -88,11 +94,19 @@ both_true : (some more : List Piece) → AreTrue some → AreTrue more → AreTr
 both_true [] more h g = g
 both_true (p ∷ some) more h g = (h.0, both_true some more h.1 g)
 
-module _ (right : HasVerdicts) where
-  claims_true : (drawing : Drawing) → IsDrawn drawing → (claims : List Statement) → ArePosed drawing.elements claims → AreTrue (map (λ e. LedgerLine drawing.elements e.statement e.verdict) (map (entry_in drawing) (map (λ s. (s, false)) claims)))
-  claims_true drawing drawn [] posed = tt
-  claims_true drawing drawn (s ∷ claims) posed =
-      (verdict_true drawing s (verdict_of (question_of drawing.elements s)) drawn (right drawing s drawn posed.0), claims_true drawing drawn claims posed.1)
+-- what a line infers holds
+abbrev InferredHolds : Type 0
+InferredHolds = (drawing : Drawing) (line : List ℕ) (s : Statement) → IsDrawn drawing → inference_of drawing.elements line ≡ Ok s → Holds drawing.elements s
+
+module _ (right : HasVerdicts) (inferred_holds : InferredHolds) where
+  -- the lines of posed statements
+  lines_true : (drawing : Drawing) → IsDrawn drawing → (lines : List (Statement × Bool)) → AllByRecursion (λ (line : Statement × Bool). IsPosed drawing.elements line.0) lines → AreTrue (map (λ e. LedgerLine drawing.elements e.statement e.verdict) (map (entry_in drawing) lines))
+  lines_true drawing drawn [] posed = tt
+  lines_true drawing drawn (line ∷ lines) posed =
+      (verdict_true drawing line.0 (verdict_of (question_of drawing.elements line.0)) drawn (right drawing line.0 drawn posed.0), lines_true drawing drawn lines posed.1)
+
+  ledger_true : (drawing : Drawing) → IsDrawn drawing → AreTrue (ledger_lines drawing)
+  ledger_true drawing drawn = lines_true drawing drawn (listed drawing) (recursion_from_All (λ (line : Statement × Bool). IsPosed drawing.elements line.0) (listed drawing) (lines_posed drawing drawn))
 
   change_true : (state : State) (r : Result Delta Refusal) → AreTrue (changed state r).printed
   change_true state (Ok d) = (tt, tt)
@@ -116,20 +130,29 @@ module _ (right : HasVerdicts) where
   command_true state command.Undo drawn = undo_true state (last_of state.done)
   command_true state command.Redo drawn = redo_true state state.undone
   command_true state command.Conjectures drawn = (tt, tt)
-  command_true state command.Ledger drawn = claims_true (drawing_of state) drawn (drawing_of state).claims drawn.posed
+  command_true state command.Ledger drawn = ledger_true (drawing_of state) drawn
   command_true state (command.Certify said) drawn = (tt, tt)
   command_true state command.Svg drawn = (tt, tt)
   command_true state (command.Show k) drawn = (tt, tt)
   command_true state (command.Close k) drawn = (tt, tt)
 
-  read_true : (state : State) (r : Result (Option Command) Refusal) → IsDrawn (drawing_of state) → AreTrue (answer_by state r).printed
-  read_true state (Err r) drawn = (tt, tt)
-  read_true state (Ok None) drawn = tt
-  read_true state (Ok (Some c)) drawn = command_true state c drawn
+  concluded_true : (state : State) (r : Result Statement Refusal) → ((s : Statement) → r ≡ Ok s → Holds (drawing_of state).elements s) → AreTrue (concluded state r).printed
+  concluded_true state (Err r) holds = (tt, tt)
+  concluded_true state (Ok s) holds = (holds s refl, tt)
+
+  beside_true : (state : State) (line : List ℕ) → IsDrawn (drawing_of state) → AreTrue (answer_beside state line).printed
+  beside_true state line drawn =
+      let inferred = inference_of (drawing_of state).elements line in
+      cond_both (begins_with (codes "infer") (words line)) (concluded state inferred) (refused state refusal.Command) (λ (a : Answer). AreTrue a.printed) (λ t. concluded_true state inferred (λ s h. inferred_holds (drawing_of state) line s drawn h)) (λ t. (tt, tt))
+
+  read_true : (state : State) (line : List ℕ) (r : Result (Option Command) Refusal) → IsDrawn (drawing_of state) → AreTrue (answer_by state line r).printed
+  read_true state line (Err r) drawn = cond_both (is_no_command r) (answer_beside state line) (refused state r) (λ (a : Answer). AreTrue a.printed) (λ t. beside_true state line drawn) (λ t. (tt, tt))
+  read_true state line (Ok None) drawn = tt
+  read_true state line (Ok (Some c)) drawn = command_true state c drawn
 
   line_true : (state : State) (line : List ℕ) → IsDrawn (drawing_of state) → AreTrue (answer_of state line).printed
   unfolding answer_of
-  line_true state line drawn = read_true (counted state) (read_of line) drawn
+  line_true state line drawn = read_true (counted state) line (read_of line) drawn
 
   pub script_true : (state : State) (lines : List (List ℕ)) → IsReached state → AreTrue (printed_from state lines)
   unfolding printed_from

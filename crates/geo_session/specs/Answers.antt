@@ -1,9 +1,10 @@
 -- What is answered to a line, and to a script.
-use Rattle.std.specs.Prelude.{ℕ, ◌+◌, ◌-◌, ◌^◌, ◌++◌, min, Bool, true, false, ◌||◌, Option, None, Some, Result, Ok, Err, List, [], ◌∷◌}
+use Rattle.std.specs.Prelude.{ℕ, ◌+◌, ◌-◌, ◌^◌, ◌++◌, min, Bool, true, false, ◌||◌, Option, None, Some, Result, Ok, Err, List, [], ◌∷◌, codes, if◌then◌else◌}
 use Rattle.geo_sketch.specs.declared.changes.Delta.{Delta}
 use Rattle.geo_sketch.specs.declared.changes.Delta.TheVariants as delta
 use Rattle.geo_sketch.specs.declared.changes.Refusal.{Refusal}
 use Rattle.geo_sketch.specs.declared.changes.Refusal.TheVariants as refusal
+use Rattle.geo_sketch.specs.declared.statements.Statement.{Statement}
 use Rattle.geo_sketch.specs.Sketches.{Drawing}
 use Rattle.geo_sketch.specs.Changes.{made_of, all_but_last}
 use Rattle.geo_sketch.specs.Additions.{addition_of}
@@ -13,11 +14,15 @@ use Rattle.geo_sketch.specs.Drops.{drop_of}
 use Rattle.geo_parse.specs.declared.commands.Command.{Command}
 use Rattle.geo_parse.specs.declared.commands.Command.TheVariants as command
 use Rattle.geo_parse.specs.Reading.{read_of}
+use Rattle.geo_parse.specs.Words.{words}
+use Rattle.geo_infer.specs.Derivations.{inference_of}
+use Rattle.geo_infer.specs.Words.{begins_with}
 use Rattle.geo_eval.specs.Shown.{shown_of}
 use Rattle.geo_session.specs.declared.state.Reply.{Reply}
 use Rattle.geo_session.specs.declared.state.Reply.TheVariants as reply
+use Rattle.geo_session.specs.LedgerTexts.{conjectures_text}
 use Rattle.geo_session.specs.Texts.{screen_text, ok_line, refusal_line}
-use Rattle.geo_session.specs.Printed.{Piece, Text, ledger_lines}
+use Rattle.geo_session.specs.Printed.{InferredLine, Piece, Text, ledger_lines}
 
 -- the changes that are done, those that were undone, and how many lines were read
 pub record State : Type 0 where
@@ -85,22 +90,35 @@ answer_to state (command.Drag name to) = changed state (drag_of (drawing_of stat
 answer_to state (command.Drop name) = changed state (drop_of (drawing_of state) name)
 answer_to state command.Undo = taken_back_to state (last_of state.done)
 answer_to state command.Redo = done_again state state.undone
-answer_to state command.Conjectures = refused state refusal.Command
+answer_to state command.Conjectures = replied state (Text (conjectures_text (drawing_of state)) ∷ [])
 answer_to state command.Ledger = replied state (ledger_lines (drawing_of state))
 answer_to state (command.Certify said) = refused state refusal.Command
 answer_to state command.Svg = refused state refusal.Command
 answer_to state (command.Show k) = refused state refusal.Command
 answer_to state (command.Close k) = refused state refusal.Command
 
+-- what a step derives is printed; or the step is refused
+abbrev pub concluded : State → Result Statement Refusal → Answer
+concluded state (Err r) = refused state r
+concluded state (Ok s) = replied state (InferredLine (drawing_of state).elements s ∷ [])
+
+-- to a line that reads as no command: by its first word, where that begins something else
+abbrev pub answer_beside : State → List ℕ → Answer
+answer_beside state line = if begins_with (codes "infer") (words line) then concluded state (inference_of (drawing_of state).elements line) else refused state refusal.Command
+
+abbrev pub is_no_command : Refusal → Bool
+is_no_command refusal.Command = true
+is_no_command r = false
+
 -- to a line, by what it reads as
-abbrev pub answer_by : State → Result (Option Command) Refusal → Answer
-answer_by state (Err r) = refused state r
-answer_by state (Ok None) = record { reply = reply.Nothing; printed = []; next = state }
-answer_by state (Ok (Some c)) = answer_to state c
+abbrev pub answer_by : State → List ℕ → Result (Option Command) Refusal → Answer
+answer_by state line (Err r) = if is_no_command r then answer_beside state line else refused state r
+answer_by state line (Ok None) = record { reply = reply.Nothing; printed = []; next = state }
+answer_by state line (Ok (Some c)) = answer_to state c
 
 -- the answer to a line
 unfoldable pub answer_of : State → List ℕ → Answer
-answer_of state line = answer_by (counted state) (read_of line)
+answer_of state line = answer_by (counted state) line (read_of line)
 
 -- what is printed for the lines of a script, one after the other
 unfoldable pub printed_from : State → List (List ℕ) → List Piece

@@ -1,4 +1,4 @@
--- The text of a ledger: statements by the names of their elements, and verdicts.
+-- The texts of conjectures and of a ledger: statements by the names of their elements, and verdicts.
 use Rattle.std.specs.Prelude.{ℕ, ◌/◌, ◌%◌, ◌==◌, if◌then◌else◌, ◌++◌, ℤ, Option, None, Some, List, [], ◌∷◌, flat_map, codes}
 use Rattle.std.specs.Fmt.{signed_decimal}
 use Rattle.geo_sketch.specs.declared.elements.Def.{Def}
@@ -12,6 +12,8 @@ use Rattle.geo_sketch.specs.declared.verdicts.Past.TheVariants.{Size, Height}
 use Rattle.geo_sketch.specs.declared.verdicts.Verdict.{Verdict}
 use Rattle.geo_sketch.specs.declared.verdicts.Verdict.TheVariants.{Proved, False, Unsettled}
 use Rattle.geo_sketch.specs.Lookups.{kind_at, numbered}
+use Rattle.geo_sketch.specs.Sketches.{Drawing}
+use Rattle.geo_guess.specs.Conjectures.{conjectures_of}
 
 -- ---- statements
 abbrev pub name_in : Option Element → List ℕ
@@ -38,6 +40,13 @@ statement_text es (statement.Null n) = codes "null " ++ name_at es n
 statement_text es (statement.Same n m) = codes "same " ++ two_names (name_at es n) (name_at es m)
 statement_text es (statement.On n m) = codes "on " ++ word_for (kind_at es n) (two_names (name_at es n) (name_at es m)) (two_names (name_at es m) (name_at es n))
 statement_text es (statement.Triple n m k) = word_for (kind_at es n) (codes "collinear ") (codes "concurrent ") ++ (name_at es n ++ (codes " " ++ two_names (name_at es m) (name_at es k)))
+
+-- a line for each conjecture
+abbrev pub conjecture_line : List Element → Statement → List ℕ
+conjecture_line es s = statement_text es s ++ codes "\n"
+
+abbrev pub conjectures_text : Drawing → List ℕ
+conjectures_text drawing = flat_map (conjecture_line drawing.elements) (conjectures_of drawing.elements)
 
 -- ---- verdicts
 -- what a value of an element's first parameter is called, and one of its second: the
@@ -81,3 +90,7 @@ verdict_values es (Unsettled past) = []
 
 abbrev pub ledger_line : List Element → Statement → Verdict → List ℕ
 ledger_line es s r = verdict_word r ++ (statement_text es s ++ (verdict_values es r ++ codes "\n"))
+
+-- ---- steps
+abbrev pub inferred_line : List Element → Statement → List ℕ
+inferred_line es s = codes "inferred " ++ (statement_text es s ++ codes "\n")

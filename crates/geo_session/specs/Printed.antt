@@ -5,30 +5,35 @@ use Rattle.geo_sketch.specs.declared.elements.Element.{Element}
 use Rattle.geo_sketch.specs.declared.statements.Statement.{Statement}
 use Rattle.geo_sketch.specs.declared.verdicts.Verdict.{Verdict}
 use Rattle.geo_sketch.specs.Sketches.{Drawing}
+use Rattle.geo_sketch.specs.Statements.{Holds}
 use Rattle.geo_ledger.specs.Ledgers.{ledger_of}
-use Rattle.geo_session.specs.LedgerTexts.{ledger_line}
+use Rattle.geo_session.specs.LedgerTexts.{inferred_line, ledger_line}
 use Rattle.geo_session.specs.Truth.{IsTrue}
 
--- some text, or the line of a ledger: a statement about some elements, with its verdict
+-- some text; the line of a ledger: a statement about some elements, with its verdict; or the
+-- line of a step: a statement that was inferred
 pub data Piece : Type 0 where
   Text : List ℕ → Piece
   LedgerLine : List Element → Statement → Verdict → Piece
+  InferredLine : List Element → Statement → Piece
 
 -- its bytes
 abbrev pub bytes_of : Piece → List ℕ
 bytes_of (Text bytes) = bytes
 bytes_of (LedgerLine es s r) = ledger_line es s r
+bytes_of (InferredLine es s) = inferred_line es s
 
 -- those of all pieces, one after the other
 abbrev pub text_of : List Piece → List ℕ
 text_of pieces = flat_map bytes_of pieces
 
--- where it prints a verdict, that is true
+-- where it prints a verdict, that is true, and what it says was inferred holds
 abbrev pub IsTruePiece : Piece → Type 0
 IsTruePiece (Text bytes) = Unit {0}
 IsTruePiece (LedgerLine es s r) = IsTrue es s r
+IsTruePiece (InferredLine es s) = Holds es s
 
--- every verdict that is printed is true
+-- every verdict that is printed is true, and every inferred statement holds
 abbrev pub AreTrue : List Piece → Type 0
 AreTrue pieces = AllByRecursion IsTruePiece pieces
 

@@ -17,10 +17,12 @@ use crate::desk::Desk;
 use crate::state::Reply;
 use geo_sketch::{Delta, Kind, Name, NoMemory, Said, Setting, Spec, Stop};
 use std::alloc::Global;
+use std::thread::Threads;
 
 impl Desk {
-    pub(crate) fn add(
+    pub(crate) fn add<R: Threads + Sync>(
         &mut self,
+        rt: &R,
         alloc: Global,
         name: &Name,
         kind: Kind,
@@ -33,14 +35,15 @@ impl Desk {
         ensures together { OnOk result (IsTogether self.new) }
     {
         match self.sketch.add(*name, kind, spec) {
-            Ok(delta) => self.note(delta, out),
+            Ok(delta) => self.note(rt, alloc, delta, out),
             Err(Stop::Refused(refusal)) => self.refuse(alloc, refusal, out),
             Err(Stop::NoMemory) => Err(NoMemory),
         }
     }
 
-    pub(crate) fn claim(
+    pub(crate) fn claim<R: Threads + Sync>(
         &mut self,
+        rt: &R,
         alloc: Global,
         said: &Said,
         out: &mut Vec<u8>,
@@ -50,14 +53,15 @@ impl Desk {
         ensures together { OnOk result (IsTogether self.new) }
     {
         match self.sketch.claim(said) {
-            Ok(delta) => self.note(delta, out),
+            Ok(delta) => self.note(rt, alloc, delta, out),
             Err(Stop::Refused(refusal)) => self.refuse(alloc, refusal, out),
             Err(Stop::NoMemory) => Err(NoMemory),
         }
     }
 
-    pub(crate) fn drag(
+    pub(crate) fn drag<R: Threads + Sync>(
         &mut self,
+        rt: &R,
         alloc: Global,
         name: &Name,
         to: Setting,
@@ -68,13 +72,14 @@ impl Desk {
         ensures together { OnOk result (IsTogether self.new) }
     {
         match self.sketch.drag(*name, to) {
-            Ok(delta) => self.note(delta, out),
+            Ok(delta) => self.note(rt, alloc, delta, out),
             Err(refusal) => self.refuse(alloc, refusal, out),
         }
     }
 
-    pub(crate) fn drop_element(
+    pub(crate) fn drop_element<R: Threads + Sync>(
         &mut self,
+        rt: &R,
         alloc: Global,
         name: &Name,
         out: &mut Vec<u8>,
@@ -84,46 +89,67 @@ impl Desk {
         ensures together { OnOk result (IsTogether self.new) }
     {
         match self.sketch.drop_element(*name) {
-            Ok(delta) => self.note(delta, out),
+            Ok(delta) => self.note(rt, alloc, delta, out),
             Err(refusal) => self.refuse(alloc, refusal, out),
         }
     }
 
-    pub(crate) fn dual(&mut self, out: &mut Vec<u8>) -> Result<Reply, NoMemory>
+    pub(crate) fn dual<R: Threads + Sync>(
+        &mut self,
+        rt: &R,
+        alloc: Global,
+        out: &mut Vec<u8>,
+    ) -> Result<Reply, NoMemory>
         requires { IsTogether self.old }
         ensures gives { IfOk result (λ reply. (state : State) → IsAt self.old state → Gives (changed state (Ok Delta.Dual)) reply out.old.items out.new.items (IsAt self.new)) }
         ensures together { OnOk result (IsTogether self.new) }
     {
         let delta = self.sketch.dual();
-        self.note(delta, out)
+        self.note(rt, alloc, delta, out)
     }
 
-    pub(crate) fn undo(&mut self, alloc: Global, out: &mut Vec<u8>) -> Result<Reply, NoMemory>
+    pub(crate) fn undo<R: Threads + Sync>(
+        &mut self,
+        rt: &R,
+        alloc: Global,
+        out: &mut Vec<u8>,
+    ) -> Result<Reply, NoMemory>
         requires { IsTogether self.old }
         ensures gives { IfOk result (λ reply. (state : State) → IsAt self.old state → Gives (taken_back_to state (last_of state.done)) reply out.old.items out.new.items (IsAt self.new)) }
         ensures together { OnOk result (IsTogether self.new) }
     {
         match self.history.undo(&mut self.sketch) {
-            Ok(delta) => self.follow(&delta, false, out),
+            Ok(delta) => self.follow(rt, alloc, &delta, false, out),
             Err(Stop::Refused(refusal)) => self.refuse(alloc, refusal, out),
             Err(Stop::NoMemory) => Err(NoMemory),
         }
     }
 
-    pub(crate) fn redo(&mut self, alloc: Global, out: &mut Vec<u8>) -> Result<Reply, NoMemory>
+    pub(crate) fn redo<R: Threads + Sync>(
+        &mut self,
+        rt: &R,
+        alloc: Global,
+        out: &mut Vec<u8>,
+    ) -> Result<Reply, NoMemory>
         requires { IsTogether self.old }
         ensures gives { IfOk result (λ reply. (state : State) → IsAt self.old state → Gives (done_again state state.undone) reply out.old.items out.new.items (IsAt self.new)) }
         ensures together { OnOk result (IsTogether self.new) }
     {
         match self.history.redo(&mut self.sketch) {
-            Ok(delta) => self.follow(&delta, true, out),
+            Ok(delta) => self.follow(rt, alloc, &delta, true, out),
             Err(Stop::Refused(refusal)) => self.refuse(alloc, refusal, out),
             Err(Stop::NoMemory) => Err(NoMemory),
         }
     }
 
     /// Notes a change that was made of the sketch, and follows it.
-    fn note(&mut self, delta: Delta, out: &mut Vec<u8>) -> Result<Reply, NoMemory>
+    fn note<R: Threads + Sync>(
+        &mut self,
+        rt: &R,
+        alloc: Global,
+        delta: Delta,
+        out: &mut Vec<u8>,
+    ) -> Result<Reply, NoMemory>
         requires leads { LeadsFrom (made_of self.old.history.done) delta }
         requires moved { self.old.sketch ≡ applied (made_of self.old.history.done) delta }
         requires followers { AreFollowersOf (made_of self.old.history.done) self.old.followers }
@@ -133,12 +159,19 @@ impl Desk {
         ensures acknowledged { IfOk result (λ reply. (reply ≡ Reply.Accepted) × (out.new.items ≡ out.old.items ++ ok_line)) }
     {
         self.history.push(delta)?;
-        self.follow(&delta, true, out)
+        self.follow(rt, alloc, &delta, true, out)
     }
 
     /// Lets all that follows the sketch follow a change, and acknowledges it; `forward` is
     /// false where the change was taken back.
-    fn follow(&mut self, delta: &Delta, forward: bool, out: &mut Vec<u8>) -> Result<Reply, NoMemory>
+    fn follow<R: Threads + Sync>(
+        &mut self,
+        rt: &R,
+        alloc: Global,
+        delta: &Delta,
+        forward: bool,
+        out: &mut Vec<u8>,
+    ) -> Result<Reply, NoMemory>
         requires made { self.old.sketch ≡ made_of self.old.history.done }
         requires leads { Leads self.old.sketch delta.now forward }
         requires followers { AreFollowersOf (before_of self.old.sketch delta.now forward) self.old.followers }
@@ -146,7 +179,8 @@ impl Desk {
         ensures together { OnOk result (IsTogether self.new) }
         ensures acknowledged { IfOk result (λ reply. (reply ≡ Reply.Accepted) × (out.new.items ≡ out.old.items ++ ok_line)) }
     {
-        self.followers.follow(&self.sketch, delta, forward)?;
+        self.followers
+            .follow(rt, alloc, &self.sketch, delta, forward)?;
         match out.extend_from_slice(b"ok\n") {
             Ok(()) => Ok(Reply::Accepted),
             Err(_) => Err(NoMemory),

@@ -7,6 +7,7 @@ ghost use Rattle.geo_session.specs.Answers.{State, start, answer_of, counted, pr
 ghost use Rattle.geo_session.specs.Printed.{AreTrue};
 
 use geo_degree::verdict_of_is_the_verdict;
+use geo_infer::inferences_are_derivations;
 
 /// A refused line changes nothing but the count of lines, and what is printed for it is the
 /// line of its refusal.
@@ -16,9 +17,11 @@ pub fn refused_lines_change_nothing()
 
 /// Whatever the lines of a script are, every verdict that is printed for them is true: a
 /// statement that is proved holds, one that is false fails at the values beside it, and one
-/// is unsettled only where it passes the limit that is named.
+/// is unsettled only where it passes the limit that is named. A statement that is inferred
+/// holds.
 pub fn printed_verdicts_are_true()
     ensures { (lines : List (List ℕ)) → AreTrue (printed_from start lines) }
 {
     verdict_of_is_the_verdict();
+    inferences_are_derivations();
 }

@@ -1,33 +1,68 @@
-//! The text of a ledger, appended to the output.
+//! The texts of conjectures and of a ledger, appended to the output.
 
-ghost use Rattle.std.specs.Prelude.{◌≡◌, ◌++◌, ◌/◌, ◌%◌, OnOk, codes, flat_map};
+ghost use Rattle.std.specs.Prelude.{◌≡◌, ◌<◌, ◌≤◌, ◌++◌, ◌/◌, ◌%◌, OnOk, codes, flat_map};
+ghost use Rattle.geo_guess.specs.Guesses.{IsGuessesOf};
 ghost use Rattle.geo_ledger.specs.Ledgers.{AreKept};
 ghost use Rattle.geo_sketch.specs.Lookups.{kind_at, numbered};
-ghost use Rattle.geo_session.specs.LedgerTexts.{first_letter, ledger_line, name_at, parameter_text, second_letter, statement_text, two_names, value_text, values_text, verdict_word, word_for};
+ghost use Rattle.geo_session.specs.LedgerTexts.{conjecture_line, conjectures_text, first_letter, ledger_line, name_at, parameter_text, second_letter, statement_text, two_names, value_text, values_text, verdict_word, word_for};
 ghost use Rattle.geo_session.specs.Printed.{ledger_lines, text_of};
 
+use geo_guess::Guesses;
 use geo_ledger::{Entry, Ledger};
+use geo_settle::Gate;
 use geo_sketch::{
     Def, Element, Kind, NoMemory, Past, Sketch, Statement, Values, Verdict, find_by_number,
 };
 use std::alloc::{AllocError, Global};
+use std::thread::Threads;
 
-/// By how many workers a statement is settled.
-const WORKERS: u64 = 1;
-
-/// Appends the ledger of the sketch. Verdicts that are kept are not found again, and those
-/// that are found are kept.
-pub(crate) fn write_ledger(
-    alloc: Global,
+/// Appends a line for each conjecture.
+pub(crate) fn write_conjectures(
     sketch: &Sketch,
-    ledger: &mut Ledger,
+    guesses: &Guesses,
     out: &mut Vec<u8>,
 ) -> Result<(), NoMemory>
-    requires { AreKept sketch.now ledger.old }
+    requires { IsGuessesOf guesses.now sketch.now }
+    ensures { OnOk result (out.new.items ≡ out.old.items ++ conjectures_text sketch.now) }
+{
+    for statement in guesses.list() {
+        if write_conjecture(sketch.elements(), statement, out).is_err() {
+            return Err(NoMemory);
+        }
+    }
+    Ok(())
+}
+
+fn write_conjecture(
+    elements: &[Element],
+    statement: &Statement,
+    out: &mut Vec<u8>,
+) -> Result<(), AllocError>
+    ensures { OnOk result (out.new.items ≡ out.old.items ++ conjecture_line elements.now statement.now) }
+{
+    write_statement(elements, statement, out)?;
+    out.extend_from_slice(b"\n")
+}
+
+/// Appends the ledger of the sketch. Verdicts that are kept are not found again, and those
+/// that are found, by so many workers, are kept.
+pub(crate) fn write_ledger<R: Threads + Sync, G: Gate + Sync>(
+    rt: &R,
+    alloc: Global,
+    sketch: &Sketch,
+    guesses: &Guesses,
+    ledger: &mut Ledger,
+    workers: u64,
+    gate: &G,
+    out: &mut Vec<u8>,
+) -> Result<(), NoMemory>
+    requires workers { (0 < workers) × (workers ≤ 16) }
+    requires guesses { IsGuessesOf guesses.now sketch.now }
+    requires kept { AreKept sketch.now ledger.old }
     ensures written { OnOk result (out.new.items ≡ out.old.items ++ text_of (ledger_lines sketch.now)) }
     ensures right { OnOk result (AreKept sketch.now ledger.new) }
 {
-    let entries = ledger.entries(alloc, sketch, WORKERS)?;
+    let entries = ledger.entries(rt, alloc, sketch, guesses, workers, gate)?;
     write_entries(alloc, sketch.elements(), entries, out)
 }
 
@@ -78,7 +113,7 @@ fn word_of_verdict(verdict: &Verdict) -> &'static [u8]
 
 /// A statement by the names of its elements, which stand by rising number, but the point
 /// before its line.
-fn write_statement(
+pub(crate) fn write_statement(
     elements: &[Element],
     statement: &Statement,
     out: &mut Vec<u8>,

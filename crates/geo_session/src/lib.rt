@@ -8,7 +8,9 @@ mod laws;
 mod ledger_texts;
 mod session;
 mod state;
+mod steps;
 mod texts;
+mod workers;
 
 pub use laws::{printed_verdicts_are_true, refused_lines_change_nothing};
 pub use state::{Reply, Session};

@@ -1,2 +1,4 @@
 pub mod AxisValues
+pub mod FailLaws
 pub mod PartLaws
+pub mod SweepLaws

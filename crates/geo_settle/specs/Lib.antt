@@ -1,1 +1,3 @@
+pub mod Fails
 pub mod Findings
+pub mod Rounds

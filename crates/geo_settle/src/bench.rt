@@ -1,15 +1,20 @@
 //! The search over a grid for the least point at which a part is not 0.
 
-ghost use Rattle.std.specs.Prelude.{◌≡◌, ◌<◌, ◌≤◌, ◌↔◌, ℕ, IfOk};
-ghost use Rattle.geo_degree.specs.Grids.{grid_size};
-ghost use Rattle.geo_degree.specs.Questions.{IsClear, IsLeastFailing, IsWithinLimits, grid_of};
+ghost use Rattle.std.specs.Prelude.{◌≡◌, ◌<◌, ◌≤◌, ◌↔◌, ℕ, All, IfOk, length, vec_len};
+ghost use Rattle.std.specs.Thread.{IsSync};
+ghost use Rattle.geo_board.specs.BoardSeats.{workers_of};
+ghost use Rattle.geo_degree.specs.Questions.{IsClear, IsLeastFailing, IsWithinLimits};
+ghost use Rattle.geo_settle.specs.Rounds.{HasSwept, IsNewWorkerOf, IsWorkerOf};
 
+use crate::gate::Gate;
+use crate::round::Round;
+use crate::worker::{CHUNK, Room, Worker};
+use geo_board::Board;
 use geo_grid::{Cursor, Form, Grid};
 use geo_sketch::NoMemory;
-use geo_triple::Steps;
 use std::alloc::Global;
-use std::marker::{Brand, Model};
-use std::sync::ledger::{Blank, Ledger};
+use std::marker::Model;
+use std::thread::{self, Threads};
 
 /// What a search over a grid found.
 #[derive(Clone, Copy, PartialEq, Eq, Debug)]
@@ -20,30 +25,32 @@ pub enum First {
     At(u64),
 }
 
-/// All that a search needs, so that the search itself takes no memory. Contracts see the
-/// form.
+/// All that a search needs, so that the search itself takes no memory: a round and its
+/// workers. Contracts see the form and how many workers there are.
 #[derive(Drop)]
 pub struct Bench<'a, F: Form> {
-    cursor: Cursor<'a, F>,
-    size: u64,
+    round: Round<'a, F>,
+    workers: Vec<Worker<'a, F>>,
 }
 
 impl<'a, F: Form> Model for Bench<'a, F> {
-    ghost use Rattle.std.specs.Prelude.{◌≡◌};
-    ghost use Rattle.geo_degree.specs.Grids.{grid_size};
-    ghost use Rattle.geo_degree.specs.Questions.{grid_of};
+    ghost use Rattle.std.specs.Prelude.{◌≡◌, ◌<◌, ℕ, All, vec_len};
+    ghost use Rattle.geo_board.specs.BoardSeats.{workers_of};
+    ghost use Rattle.geo_settle.specs.Rounds.{IsNewWorkerOf};
 
-    ghost Value = { F };
+    ghost Value = { F × ℕ };
 
-    ghost view = { λ bench. bench.cursor.0 };
+    ghost view = { λ b. (b.round.0, vec_len b.workers) };
 
-    ghost invariant = { λ bench. bench.size ≡ grid_size (grid_of (F.question bench.cursor.0)) };
+    ghost invariant = { λ b.
+        All (IsNewWorkerOf b.round) b.workers.items ×
+        (vec_len b.workers ≡ workers_of b.round.1) ×
+        (0 < vec_len b.workers) };
 }
 
 impl<'a, F: Form + Sync> Bench<'a, F> {
-    /// Makes a search over the grid of a form ready. The number of workers has no effect
-    /// yet: there is one cursor and one loop. They are to share the points by a board of
-    /// geo_board.
+    /// Makes a search over the grid of a form ready, with a seat, a cursor and room for all
+    /// seats for each worker.
     pub fn prepare(
         alloc: Global,
         form: &'a F,
@@ -53,41 +60,74 @@ impl<'a, F: Form + Sync> Bench<'a, F> {
         requires grid { grid.now ≡ (F.question form.now).blocks }
         requires within { IsWithinLimits (F.question form.now) }
         requires workers { (0 < workers) × (workers ≤ 16) }
-        ensures { IfOk result (λ bench. bench ≡ form.now) }
+        ensures { IfOk result (λ bench. bench ≡ (form.now, workers)) }
     {
-        let cursor = Cursor::new(alloc, form, grid)?;
+        let size = grid.size();
+        let Ok((board, mut seats)) = Board::new(alloc, size.div_ceil(CHUNK), workers) else {
+            return Err(NoMemory);
+        };
+        let mut list = Vec::new(alloc);
+        while let Some(seat) = seats.pop() {
+            let cursor = Cursor::new(alloc, form, grid)?;
+            let Ok(seats) = Vec::with_capacity(alloc, 16) else {
+                return Err(NoMemory);
+            };
+            let room = Room { seats };
+            let Ok(()) = list.push(Worker { seat, cursor, room }) else {
+                return Err(NoMemory);
+            };
+        }
         Ok(Bench {
-            cursor,
-            size: grid.size(),
+            round: Round { form, size, board },
+            workers: list,
         })
     }
 
-    /// Searches the whole grid. It takes no memory.
-    pub fn run(mut self) -> First
-        ensures clear { (result ≡ First.Clear) ↔ IsClear (F.question self.entry) }
-        ensures at { (i : ℕ) → (result ≡ First.At i) ↔ IsLeastFailing (F.question self.entry) i }
+    /// The round, and its workers, for who lets them sweep in threads of his own.
+    pub fn open(self) -> (Round<'a, F>, Vec<Worker<'a, F>>)
+        ensures form { result.0.0 ≡ self.entry.0 }
+        ensures count { (vec_len result.1 ≡ self.entry.1) × (workers_of result.0.1 ≡ self.entry.1) }
+        ensures workers { All (IsNewWorkerOf result.0) result.1.items }
     {
-        let size = self.size;
-        least_failing::<F, Brand>(&mut self.cursor, size, Blank::new(1))
+        (self.round, self.workers)
+    }
+
+    /// Searches the whole grid: each worker sweeps in a thread of its own, and one worker in
+    /// this thread. The gate is told of each chunk once, and once more by each worker. It
+    /// takes no memory, and cannot be refused: where no thread can be made the workers sweep
+    /// one after the other.
+    pub fn run<R: Threads + Sync, G: Gate + Sync>(self, rt: &R, gate: &G) -> First
+        ensures clear { (result ≡ First.Clear) ↔ IsClear (F.question self.entry.0) }
+        ensures at { (i : ℕ) → (result ≡ First.At i) ↔ IsLeastFailing (F.question self.entry.0) i }
+    {
+        let (round, mut workers) = self.open();
+        sweep_all(rt, &round, workers.as_mut_slice(), gate);
+        round.close(workers)
     }
 }
 
-/// Goes from point to point until a part is not 0. It counts no steps for its caller.
-fn least_failing<F: Form, L: Ledger>(cursor: &mut Cursor<F>, size: u64, blank: Blank) -> First
-    requires size { size ≡ grid_size (grid_of (F.question cursor.old.0)) }
-    requires name { blank.name ≡ L.name }
-    requires parts { blank.parts ≡ L.parts }
-    requires some { 0 < blank.parts }
-    ensures clear { (result ≡ First.Clear) ↔ IsClear (F.question cursor.old.0) }
-    ensures at { (i : ℕ) → (result ≡ First.At i) ↔ IsLeastFailing (F.question cursor.old.0) i }
+/// Lets each worker sweep in a thread of its own.
+fn sweep_all<'a, F: Form + Sync, R: Threads + Sync, G: Gate + Sync>(
+    rt: &R,
+    round: &Round<'a, F>,
+    workers: &mut [Worker<'a, F>],
+    gate: &G,
+)
+    requires some { 0 < length workers.old }
+    requires new { All (IsNewWorkerOf round.now) workers.old }
+    ensures count { length workers.new ≡ length workers.old }
+    ensures of_round { All (IsWorkerOf round.now) workers.new }
+    ensures swept { All (HasSwept (F.question round.now.0)) workers.new }
 {
-    let mut steps = Steps::<L>::new(blank);
-    cursor.seek(0, &mut steps);
-    for index in 0..size {
-        if cursor.failing() {
-            return First::At(index);
-        }
-        cursor.next(&mut steps);
-    }
-    First::Clear
+    let count = workers.len();
+    thread::for_each_mut(
+        rt,
+        workers,
+        count,
+        &|_, worker|
+            requires { IsSync F.row × IsSync G.row × IsNewWorkerOf round.now worker.old }
+            ensures of_round { IsWorkerOf round.entry.now worker.new }
+            ensures swept { HasSwept (F.question round.entry.now.0) worker.new }
+        { worker.sweep(round, gate) },
+    );
 }

@@ -22,7 +22,7 @@ const SAMPLE_COUNT: u32 = 8;
 
 /// The values of the axes at the first sample position at which a part of the form is not
 /// 0; None where all parts are 0 at all of them.
-pub(crate) fn failing_sample<F: Form>(alloc: Global, form: &F) -> Result<Option<Values>, NoMemory>
+pub fn failing_sample<F: Form>(alloc: Global, form: &F) -> Result<Option<Values>, NoMemory>
     ensures { IfOk result (λ found. IsSampleFinding (F.question form.now) found) }
 {
     first_failing::<F, Brand>(alloc, form, Blank::new(1))

@@ -6,6 +6,7 @@ ghost use Rattle.geo_degree.specs.VerdictFunction.{verdict_of};
 ghost use Rattle.geo_degree.specs.Verdicts.{IsGridVerdict, IsPast, IsSampleVerdict};
 
 use crate::bench::{Bench, First};
+use crate::gate::Gate;
 use crate::parts::zero_everywhere;
 use crate::samples::failing_sample;
 use crate::values::values_at;
@@ -13,36 +14,45 @@ use geo_degree::verdict_of_is_the_verdict;
 use geo_grid::{Form, Grid, GridStop};
 use geo_sketch::{NoMemory, Past, Verdict};
 use std::alloc::Global;
+use std::thread::Threads;
 
 /// The verdict on what a form asks. Where its grid is within the limits, it is searched:
 /// what is 0 at all its points is 0 everywhere. Elsewhere eight samples are tried, which
-/// prove nothing. The method is that of Zhang, Yang and Deng (1990). The number of workers
-/// has no effect yet.
-pub fn settle<F: Form + Sync>(alloc: Global, form: &F, workers: u64) -> Result<Verdict, NoMemory>
+/// prove nothing. The method is that of Zhang, Yang and Deng (1990). The workers share the
+/// search over the grid, and tell the gate of their claims.
+pub fn settle<F: Form + Sync, R: Threads + Sync, G: Gate + Sync>(
+    rt: &R,
+    alloc: Global,
+    form: &F,
+    workers: u64,
+    gate: &G,
+) -> Result<Verdict, NoMemory>
     requires { (0 < workers) × (workers ≤ 16) }
     ensures { IfOk result (λ r. r ≡ verdict_of (F.question form.now)) }
 {
     verdict_of_is_the_verdict();
     match Grid::of(alloc, form) {
-        Ok(grid) => verdict_on_grid(alloc, form, &grid, workers),
+        Ok(grid) => verdict_on_grid(rt, alloc, form, &grid, workers, gate),
         Err(GridStop::Past(past)) => verdict_at_samples(alloc, form, past),
         Err(GridStop::NoMemory) => Err(NoMemory),
     }
 }
 
 /// The verdict on a form whose grid is within the limits.
-fn verdict_on_grid<F: Form + Sync>(
+fn verdict_on_grid<F: Form + Sync, R: Threads + Sync, G: Gate + Sync>(
+    rt: &R,
     alloc: Global,
     form: &F,
     grid: &Grid,
     workers: u64,
+    gate: &G,
 ) -> Result<Verdict, NoMemory>
     requires grid { grid.now ≡ (F.question form.now).blocks }
     requires within { IsWithinLimits (F.question form.now) }
     requires workers { (0 < workers) × (workers ≤ 16) }
     ensures { IfOk result (λ r. IsGridVerdict (F.question form.now) (IsZeroEverywhere (F.question form.now)) r) }
 {
-    match Bench::prepare(alloc, form, grid, workers)?.run() {
+    match Bench::prepare(alloc, form, grid, workers)?.run(rt, gate) {
         First::Clear => {
             zero_everywhere(form);
             Ok(Verdict::Proved)

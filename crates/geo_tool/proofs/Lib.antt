@@ -1,3 +1,4 @@
 pub mod ChangeLemmas
+pub mod CutLemmas
 pub mod ExpansionLaws
 pub mod ShortLemmas

@@ -1,6 +1,6 @@
 //! Laws of the expansion of a script.
 
-ghost use Rattle.std.specs.Prelude.{◌≡◌, ◌*◌, ◌≤◌, ◌++◌, ◌∷◌, [], ℕ, List, false, length};
+ghost use Rattle.std.specs.Prelude.{◌≡◌, ◌*◌, ◌≤◌, ◌++◌, ◌∷◌, [], ℕ, List, false, length, map, take};
 ghost use Rattle.std.specs.List.{AllByRecursion};
 ghost use Rattle.geo_parse.specs.Words.{words};
 ghost use Rattle.geo_tool.specs.Expansion.{after_line, bench_after, begins_tool, empty_bench, expansion_from, expansion_of, given_by};
@@ -25,4 +25,10 @@ pub fn own_expansion()
 pub fn few_lines_given()
     ensures each { (lines : List (List ℕ)) (line : List ℕ) → length (given_by (bench_after lines) line) ≤ 32 }
     ensures all { (lines : List (List ℕ)) → length (expansion_of lines) ≤ 32 * length lines }
+{}
+
+/// Lines of which no more than the first 201 bytes are kept expand as whole ones do, as far as
+/// the first 201 bytes of each line that is given.
+pub fn cut_lines_expand_alike()
+    ensures { (lines : List (List ℕ)) → map (take 201) (expansion_of (map (take 201) lines)) ≡ map (take 201) (expansion_of lines) }
 {}

@@ -12,4 +12,4 @@ mod uses;
 
 pub use expanded::Expanded;
 pub use expander::Expander;
-pub use laws::{fed_one_by_one, few_lines_given, own_expansion};
+pub use laws::{cut_lines_expand_alike, fed_one_by_one, few_lines_given, own_expansion};

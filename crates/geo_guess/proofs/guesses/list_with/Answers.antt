@@ -8,5 +8,5 @@ pub returns-in-Ok : goal.returns-in-Ok
 returns-in-Ok g c =
     let tried = rw c.elements.ensures.elements at c.in_ok-statements.ensures in
     IfOk-then c.put_all.result _ _ c.put_all.ensures (λ list h.
-    h ∙ (λ i. all_placed (c.deref-in-Ok.ensures.value i) c.args.kept.now)
-    ∙ all_listed c.args.sketch.now c.requires.0 c.args.n c.requires.1 c.args.kept.now c.in-Ok.found.items c.in_ok-statements.statements.items c.requires.2 tried c.in-Ok.ensures)
+    h ∙ (λ i. all_placed (c.deref.ensures.value i) c.args.kept.now)
+    ∙ all_listed c.args.sketch.now c.requires.without.0 c.args.n c.requires.without.1 c.args.kept.now c.in-Ok.found.items c.in_ok-statements.statements.items c.requires.without.2 tried c.in-Ok.ensures)

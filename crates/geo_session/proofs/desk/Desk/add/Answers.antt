@@ -7,7 +7,7 @@ use Rattle.geo_session.proofs.StateLaws.{change_refused, refusal_given}
 use Rattle.geo_session.proofs.desk.Desk.add.Goals as goal
 
 pub returns-in-Err-Refused-clause-gives : goal.returns-in-Err-Refused-clause-gives
-returns-in-Err-Refused-clause-gives c =
+returns-in-Err-Refused-clause-gives g c =
     let made : addition_of c.args.self.now.sketch c.args.name.now c.args.kind c.args.spec.now ≡ Err c.in-Err-Refused.refusal = (c.add.ensures.refused c.in-Err-Refused.refusal).0 (c.in-Err-Refused.is ∙ ap Err c.in-Err-Refused.field-0-is) in
     let same : c.add.new.self ≡ c.args.self.now.sketch = search rules in
     refusal_given c.args.self.now _ _ _ refl (λ (state : State). changed state (addition_of (drawing_of state) c.args.name.now c.args.kind c.args.spec.now)) c.in-Err-Refused.refusal _ (change_refused c.args.self.now (λ (drawing : Drawing). addition_of drawing c.args.name.now c.args.kind c.args.spec.now) c.in-Err-Refused.refusal made) same refl c.refuse.ensures

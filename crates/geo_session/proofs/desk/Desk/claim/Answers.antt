@@ -7,7 +7,7 @@ use Rattle.geo_session.proofs.StateLaws.{change_refused, refusal_given}
 use Rattle.geo_session.proofs.desk.Desk.claim.Goals as goal
 
 pub returns-in-Err-Refused-clause-gives : goal.returns-in-Err-Refused-clause-gives
-returns-in-Err-Refused-clause-gives c =
+returns-in-Err-Refused-clause-gives g c =
     let made : claim_of c.args.self.now.sketch c.args.said.now ≡ Err c.in-Err-Refused.refusal = (c.claim.ensures.refused c.in-Err-Refused.refusal).0 (c.in-Err-Refused.is ∙ ap Err c.in-Err-Refused.field-0-is) in
     let same : c.claim.new.self ≡ c.args.self.now.sketch = search rules in
     refusal_given c.args.self.now _ _ _ refl (λ (state : State). changed state (claim_of (drawing_of state) c.args.said.now)) c.in-Err-Refused.refusal _ (change_refused c.args.self.now (λ (drawing : Drawing). claim_of drawing c.args.said.now) c.in-Err-Refused.refusal made) same refl c.refuse.ensures

@@ -1,0 +1,4 @@
+mod SumLaws
+mod AxesInOrder
+mod BlocksInOrder
+mod ExpressionLaws

@@ -1,0 +1,4 @@
+pub mod Exactness
+pub mod ObjectLaws
+pub mod Steps
+pub mod WholeLines

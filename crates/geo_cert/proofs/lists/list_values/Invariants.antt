@@ -1,0 +1,9 @@
+use Rattle.std.proofs.Common.{◌≡◌, drop, ◌++◌}
+use Rattle.std.specs.Prelude.{option_map}
+use Rattle.serde_json.specs.View.{items_view}
+use Rattle.geo_cert.specs.Reading.{value_in}
+use Rattle.geo_cert.specs.Rows.{all_in, row_in}
+use Rattle.geo_cert.proofs.lists.list_values.Given as goal
+
+abbrev pub invariant-loop-row : goal.invariant-loop-row
+invariant-loop-row l = option_map (λ xs. l.all ++ xs) (all_in (row_in value_in) (items_view (drop l.row-index l.rows))) ≡ all_in (row_in value_in) (items_view l.rows)

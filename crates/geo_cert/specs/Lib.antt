@@ -1,0 +1,10 @@
+pub mod Grids
+pub mod Entries
+pub mod Words
+pub mod Rows
+pub mod Reading
+pub mod Versions
+pub mod Objects
+pub mod Parts
+pub mod Shapes
+pub mod Lines

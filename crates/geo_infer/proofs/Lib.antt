@@ -1,0 +1,7 @@
+mod Identities
+mod Orders
+mod RuleLaws
+mod LineLaws
+mod PosedShapes
+mod SampleLaws
+mod DerivationLaws

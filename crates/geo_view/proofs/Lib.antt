@@ -1,0 +1,8 @@
+mod EntryLaws
+mod PictureLaws
+mod Steps
+mod WallLaws
+mod HereLaws
+mod FollowLaws
+mod ViewLaws
+mod NearLaws

@@ -1,0 +1,7 @@
+use Rattle.std.proofs.Common.{◌≡◌, ◌++◌, take}
+use Rattle.std.specs.Prelude.{flat_map}
+use Rattle.geo_view.specs.Pictures.{entry_text, head_text}
+use Rattle.geo_view.proofs.picture.write_plane.Given as goal
+
+abbrev pub invariant-loop-entry : goal.invariant-loop-entry
+invariant-loop-entry l = l.out.items ≡ (l.fn.out.items ++ head_text) ++ flat_map entry_text (take l.entry-index l.fn.entries)

@@ -1,0 +1,23 @@
+//! Boxed views of a sketch, and pictures.
+#![tactic(auto)]
+
+mod entries;
+mod following;
+mod laws;
+mod picture;
+mod shown;
+mod table;
+mod view;
+mod views;
+mod wall;
+
+pub use following::{changes_of, entries_of};
+pub use laws::views_follow;
+pub use picture::write_picture;
+pub use shown::{Change, Shown, ViewKind};
+pub use view::View;
+pub use views::{DualView, PlaneView, TableView};
+pub use wall::{Place, Wall};
+
+#[cfg(test)]
+mod tests;
