@@ -1,0 +1,20 @@
+" Scripts of bukshena. To install: copy contrib/editors/vim into ~/.vim (or a folder of its packages).
+if exists('b:current_syntax')
+  finish
+endif
+
+syntax match bukshenaComment "^\s*#.*$"
+syntax match bukshenaDrawing "^\s*\(point\|line\|fixpoint\|fixline\|on\|through\|along\|pencil\|join\|meet\)\>"
+syntax match bukshenaCommand "^\s*\(drag\|drop\|dual\|undo\|redo\|screen\|conjectures\|ledger\)\>"
+syntax match bukshenaAsking "^\s*claim\s\+\(null\|same\|on\|collinear\|concurrent\)\>"
+syntax match bukshenaRule "^\s*infer\s\+\(span\|extend\|lie\|unique\|move\)\>"
+syntax match bukshenaNumber "\s\zs-\?\d\{1,4}\ze\(\s\|$\)"
+
+highlight default link bukshenaComment Comment
+highlight default link bukshenaDrawing Statement
+highlight default link bukshenaCommand Keyword
+highlight default link bukshenaAsking Function
+highlight default link bukshenaRule Function
+highlight default link bukshenaNumber Number
+
+let b:current_syntax = 'bukshena'
