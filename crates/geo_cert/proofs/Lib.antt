@@ -1,4 +1,10 @@
 pub mod Exactness
+pub mod Lengths
+pub mod MadeLaws
+pub mod MadeLists
 pub mod ObjectLaws
+pub mod Plainness
+pub mod ReadingBack
+pub mod RowLists
 pub mod Steps
 pub mod WholeLines

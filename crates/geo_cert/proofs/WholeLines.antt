@@ -1,4 +1,5 @@
 -- Reading a certificate is exact: what is written reads back, and nothing else reads so.
+-- lemmas for other crates
 use Rattle.std.proofs.Common.{◌≡◌, ℕ, ℤ, ◌<◌, ◌^◌, List, Bool, true, false, Option, Some, None, refl, ap, subst, sym, ◌∙◌, arith}
 use Rattle.std.specs.Prelude.{if◌then◌else◌, ◌==◌, ◌⊎◌, nat_lt, option_and_then, option_map, codes, Result, Ok, Err}
 use Rattle.std.specs.List.{AllByRecursion}
@@ -10,13 +11,14 @@ use Rattle.geo_sketch.specs.declared.elements.Def.{Def}
 use Rattle.geo_sketch.specs.declared.statements.Statement.{Statement}
 use Rattle.serde_json.specs.Data.{Data, null, boolean, number, string, array, object, Members, no_members, member}
 use Rattle.serde_json.specs.Find.{as_object, as_str}
+use Rattle.serde_json.specs.Read.{read}
 use Rattle.geo_cert.specs.declared.certificates.CertStop.TheVariants.{Bad}
 use Rattle.geo_cert.specs.declared.certificates.Certificate.{Certificate}
 use Rattle.geo_cert.specs.declared.certificates.Finding.{Finding}
 use Rattle.geo_cert.specs.declared.certificates.Finding.TheVariants.{Proved, False}
 use Rattle.geo_cert.specs.declared.degree_lists.DegreeEntry.{DegreeEntry}
 use Rattle.geo_cert.specs.Grids.{Grid}
-use Rattle.geo_cert.specs.Lines.{IsAnswer}
+use Rattle.geo_cert.specs.Lines.{IsAnswer, ReadsAs}
 use Rattle.geo_cert.specs.Objects.{FalseData, ProvedData, certificate, certificate_in, certificate_of, checked, endings, ends_well, false_finding, false_of, false_parts, fits_version, is_text, member_count, proved_finding, proved_of, proved_parts, with_finding}
 use Rattle.geo_cert.specs.Reading.{claim_in, degree_in, element_in, grid_in, value_in}
 use Rattle.geo_cert.specs.Rows.{count, row_in, rows_in}
@@ -176,3 +178,13 @@ none_only d c e h = let r : certificate_of d ≡ Some c = data_reads d c h in cc
 
 pub answer_none : (d : Data) (o : Option Certificate) → o ≡ certificate_of d → o ≡ None → IsAnswer d (Err (Bad 2))
 answer_none d o e f = (refl, λ c h. none_only d c (sym f ∙ e) h)
+
+-- ---- no line reads as two
+pub one_only : (line : List ℕ) (x y : Certificate) → ReadsAs line x → ReadsAs line y → x ≡ y
+one_only line x y h g =
+    let a : read line ≡ Some h.0 = h.1.2 in
+    let b : read line ≡ Some g.0 = g.1.2 in
+    let same : h.0 ≡ g.0 = cc in
+    let first : certificate_of h.0 ≡ Some x = data_reads h.0 x h.2 in
+    let second : certificate_of g.0 ≡ Some y = data_reads g.0 y g.2 in
+    cc

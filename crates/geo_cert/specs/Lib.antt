@@ -8,3 +8,5 @@ pub mod Objects
 pub mod Parts
 pub mod Shapes
 pub mod Lines
+pub mod Written
+pub mod Making

@@ -1,6 +1,6 @@
 //! The grid of a certificate.
 
-ghost use Rattle.std.specs.Prelude.{◌≡◌, ◌<◌, ◌++◌, ◌∷◌, [], true, length, slice_get, Some, OnOk, OnErr, option_and_then, option_map};
+ghost use Rattle.std.specs.Prelude.{◌≡◌, ◌<◌, ◌++◌, ◌∷◌, [], true, length, slice_get, Some, OnOk, OnErr, map, option_and_then, option_map};
 ghost use Rattle.geo_cert.specs.Entries.{grid_of_entry};
 ghost use Rattle.geo_cert.specs.Grids.{first_values, head_of, is_pair, one, second_values, two};
 ghost use Rattle.geo_cert.specs.Versions.{are_single_grids};
@@ -131,6 +131,13 @@ impl GridList {
             Some(GridEntry::Pair(_, _, _, second)) => second,
             _ => &[],
         }
+    }
+
+    /// All entries, in their order.
+    pub(crate) fn as_slice(&self) -> &[GridEntry]
+        ensures { map grid_of_entry result.now ≡ self.now }
+    {
+        &self.entries
     }
 
     /// Whether each entry is for one parameter.

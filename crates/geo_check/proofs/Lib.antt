@@ -1,0 +1,13 @@
+pub mod ListLaws
+pub mod ZeroLaws
+pub mod EnoughLaws
+pub mod TruthLaws
+pub mod EntryLaws
+pub mod EvaluationLaws
+pub mod PositionLaws
+pub mod ValueLaws
+pub mod FaultLaws
+pub mod SizeLaws
+pub mod MadeEntries
+pub mod NeededDegrees
+pub mod MadeValid

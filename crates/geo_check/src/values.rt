@@ -1,0 +1,89 @@
+//! The values at which a claim is said to be false.
+
+ghost use Rattle.std.specs.Prelude.{◌≡◌, ◌<◌, ◌*◌, IfOk, All, length, pos, replicate, slice_get, Some, ℕ, ℤ};
+ghost use Rattle.geo_sketch.specs.Assignments.{assignment_of};
+ghost use Rattle.geo_sketch.specs.Sketches.{number_limit};
+ghost use Rattle.geo_check.specs.Grids.{are_values_for, sizes_of_values};
+ghost use Rattle.geo_check.specs.Instances.{assigned, nothing_set};
+
+use crate::walking::put;
+use geo_sketch::{NUMBER_LIMIT, NoMemory, Values};
+use std::alloc::Global;
+
+/// The values are for these parameters, each once and in this order.
+pub(crate) fn are_values_for(parameters: &[u32], values: &Values) -> bool
+    ensures { result ≡ are_values_for parameters.now values.now }
+{
+    for (k, p) in parameters.iter().enumerate() {
+        match values.get(k) {
+            Some((q, _)) => {
+                if q != *p {
+                    return false;
+                }
+            }
+            None => return false,
+        }
+    }
+    values.get(parameters.len()).is_none()
+}
+
+/// Each parameter with the absolute value of its value.
+pub(crate) fn list_sizes(alloc: Global, values: &Values) -> Result<Vec<(u32, u64)>, NoMemory>
+    ensures { IfOk result (λ sizes. sizes.items ≡ sizes_of_values values.now) }
+{
+    let mut sizes = Vec::new(alloc);
+    for k in 0..values.len() {
+        let Some((p, value)) = values.get(k) else {
+            return Ok(sizes);
+        };
+        if sizes.push((p, value.unsigned_abs())).is_err() {
+            return Err(NoMemory);
+        }
+    }
+    Ok(sizes)
+}
+
+/// The values by the numbers of their parameters; every other parameter is 0.
+pub(crate) fn assigned_values(alloc: Global, values: &Values) -> Result<Vec<i64>, NoMemory>
+    requires { All (λ (v : ℕ × ℤ). v.0 < 2 * number_limit) values.now }
+    ensures room { IfOk result (λ position. length position.items ≡ 2 * number_limit) }
+    ensures values { IfOk result (λ position. assigned position.items ≡ assignment_of values.now) }
+{
+    let mut position = blank_values(alloc)?;
+    assign(values, &mut position);
+    Ok(position)
+}
+
+/// A value for each parameter that a sketch may have, all 0.
+pub(crate) fn blank_values(alloc: Global) -> Result<Vec<i64>, NoMemory>
+    ensures { IfOk result (λ values. values.items ≡ replicate (2 * number_limit) (pos 0)) }
+{
+    match vec![in alloc; 0; 2 * NUMBER_LIMIT] {
+        Ok(values) => Ok(values),
+        Err(_) => Err(NoMemory),
+    }
+}
+
+/// Sets each parameter to its value, from the last one to the first.
+fn assign(values: &Values, position: &mut [i64])
+    requires room { length position.old ≡ 2 * number_limit }
+    requires within { All (λ (v : ℕ × ℤ). v.0 < 2 * number_limit) values.now }
+    requires nothing { assigned position.old ≡ nothing_set }
+    ensures { assigned position.new ≡ assignment_of values.now }
+{
+    for k in (0..values.len()).rev() {
+        let (p, value) = value_at(values, k);
+        put(position, p as usize, value);
+    }
+}
+
+/// The parameter and the value at a place.
+fn value_at(values: &Values, k: usize) -> (u32, i64)
+    requires { k < length values.now }
+    ensures { slice_get values.now k ≡ Some result }
+{
+    match values.get(k) {
+        Some(value) => value,
+        None => (0, 0),
+    }
+}
