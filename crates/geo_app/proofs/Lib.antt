@@ -1,6 +1,14 @@
+mod Alone
+mod BatchCourses
+mod BatchCuts
+mod BatchSheets
 mod Carried
+mod CertificateCourses
+mod LongJobs
 mod LongLines
 mod Numerals
+mod PlaceTexts
 mod Progress
 mod ScriptCourses
 pub mod Tallies
+mod Writing

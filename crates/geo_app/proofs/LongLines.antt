@@ -6,7 +6,9 @@ use Rattle.geo_sketch.specs.declared.changes.Refusal.TheVariants.{Long}
 use Rattle.geo_parse.specs.Refusals.{applies, refusal_of}
 use Rattle.geo_parse.specs.Reading.{read_by, command_of, read_of}
 use Rattle.geo_parse.specs.Words.{words}
-use Rattle.geo_session.specs.Answers.{State, answer_by, counted, answer_of, refused, is_refused, printed_from, has_refusal}
+use Rattle.geo_session.specs.Answers.{State, start, answer_by, counted, answer_of, refused, is_refused, printed_from, has_refusal}
+use Rattle.geo_tool.specs.Expansion.{expansion_of}
+use Rattle.geo_script.specs.Places.{beginning, printed_at, refuses_at}
 
 refused_as_long : (line : List ℕ) → nat_lt 200 (length line) ≡ true → refusal_of line ≡ Some Long
 unfolding refusal_of applies
@@ -45,12 +47,22 @@ answered_alike state line =
       | inr short ↦ ap (answer_of state) (cut_whole 200 line short)
     ]
 
-pub printed_alike : (state : State) (lines : List (List ℕ)) → printed_from state (map (take 201) lines) ≡ printed_from state lines
+printed_alike : (state : State) (lines : List (List ℕ)) → printed_from state (map (take 201) lines) ≡ printed_from state lines
 unfolding printed_from
 printed_alike state [] = refl
 printed_alike state (line ∷ lines) = ap (λ a. a.printed ++ printed_from a.next (map (take 201) lines)) (answered_alike state line) ∙ ap (λ ps. (answer_of state line).printed ++ ps) (printed_alike (answer_of state line).next lines)
 
-pub refused_alike : (state : State) (lines : List (List ℕ)) → has_refusal state (map (take 201) lines) ≡ has_refusal state lines
+refused_alike : (state : State) (lines : List (List ℕ)) → has_refusal state (map (take 201) lines) ≡ has_refusal state lines
 unfolding has_refusal
 refused_alike state [] = refl
 refused_alike state (line ∷ lines) = ap (λ a. is_refused a.reply || has_refusal a.next (map (take 201) lines)) (answered_alike state line) ∙ ap (λ b. is_refused (answer_of state line).reply || b) (refused_alike (answer_of state line).next lines)
+
+-- so do the lines that the expansion gives
+abbrev ExpandAlike : Type 0
+ExpandAlike = (lines : List (List ℕ)) → map (take 201) (expansion_of (map (take 201) lines)) ≡ map (take 201) (expansion_of lines)
+
+pub all_printed_alike : ExpandAlike → (lines : List (List ℕ)) → printed_at beginning (map (take 201) lines) ≡ printed_at beginning lines
+all_printed_alike alike lines = sym (printed_alike start (expansion_of (map (take 201) lines))) ∙ ap (printed_from start) (alike lines) ∙ printed_alike start (expansion_of lines)
+
+pub all_refused_alike : ExpandAlike → (lines : List (List ℕ)) → refuses_at beginning (map (take 201) lines) ≡ refuses_at beginning lines
+all_refused_alike alike lines = sym (refused_alike start (expansion_of (map (take 201) lines))) ∙ ap (has_refusal start) (alike lines) ∙ refused_alike start (expansion_of lines)

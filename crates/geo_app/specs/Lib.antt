@@ -5,4 +5,8 @@ pub mod Output
 pub mod Outcomes
 pub mod Courses
 pub mod Scripts
+pub mod Checking
 pub mod Steps
+pub mod Batches
+pub mod Sheets
+pub mod Gatherings

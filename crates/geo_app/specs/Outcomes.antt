@@ -6,8 +6,8 @@ use Rattle.geo_session.specs.Printed.{AreTrue}
 use Rattle.geo_app.specs.declared.program.Outcome.{Outcome}
 use Rattle.geo_app.specs.declared.program.Outcome.TheVariants.{Done, SomeRefused, Usage, ReadFault, WriteFault, TooLong, NoMemory}
 use Rattle.geo_app.specs.declared.task.Task.{Task}
-use Rattle.geo_app.specs.declared.task.Task.TheVariants.{Run, Generate}
-use Rattle.geo_app.specs.Output.{output_of, output_at_fault, printed, HasRefusal}
+use Rattle.geo_app.specs.declared.task.Task.TheVariants.{Run, Check, Generate, Batch}
+use Rattle.geo_app.specs.Output.{output_of, output_at_fault, printed, AreRightAnswers, HasRefusal}
 
 -- the exit status of an outcome
 abbrev pub status_of : Outcome → ℕ
@@ -30,19 +30,25 @@ IsStopped outcome = (outcome ≡ ReadFault) ⊎ ((outcome ≡ WriteFault) ⊎ ((
 -- what there is to read was read to its end: a generated script is not read
 abbrev pub IsReadToEnd : Task → Option (List ℕ) → Type 0
 IsReadToEnd Run left = IsAtEnd left
+IsReadToEnd Check left = IsAtEnd left
 IsReadToEnd (Generate seed) left = Unit {0}
+IsReadToEnd Batch left = IsAtEnd left
 
 -- the headline: what the program did with the bytes that it took. The source has `left`
--- left, and the sink held `before` and holds `after`, each where it tells
-pub record Headline (task : Task) (outcome : Outcome) (taken : List ℕ) (left before after : Option (List ℕ)) : Type 0 where
+-- left, and the sink held `before` and holds `after`, each where it tells. How many workers there
+-- are says only what was written of a batch where the source failed
+pub record Headline (task : Task) (workers : ℕ) (outcome : Outcome) (taken : List ℕ) (left before after : Option (List ℕ)) : Type 0 where
   -- Done or SomeRefused: all was read, the whole output was written, and it is SomeRefused
-  -- exactly where a line was refused
+  -- exactly where a line or a job was refused, or a certificate invalid
   pub answered : IsAnswered outcome → IsReadToEnd task left × Appends before after (output_of task taken) × ((outcome ≡ SomeRefused) ↔ HasRefusal task taken)
   -- ReadFault, WriteFault, TooLong or NoMemory: a front part of the output was written
   pub stopped : IsStopped outcome → AppendsFront before after (output_of task taken)
-  -- ReadFault: the replies to the whole lines that were taken were written, and nothing else
-  pub read_fault : (outcome ≡ ReadFault) → Appends before after (output_at_fault task taken)
+  -- ReadFault: the replies to the whole lines that were taken were written, of a batch the outputs
+  -- of its whole rounds, and nothing else
+  pub read_fault : (outcome ≡ ReadFault) → Appends before after (output_at_fault task workers taken)
   -- TooLong: exactly where more than 2^24 bytes were taken
   pub too_long : (outcome ≡ TooLong) ↔ (2 ^ 24 < length taken)
   -- whatever the outcome is, every verdict in the output is true
   pub true_verdicts : AreTrue (printed task taken)
+  -- and every answer to a certificate is right: what a valid one says of its claim is true
+  pub right_answers : AreRightAnswers task taken

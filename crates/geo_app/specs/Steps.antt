@@ -1,14 +1,21 @@
 -- One line of a script carried out.
-use Rattle.std.specs.Prelude.{◌≡◌, ℕ, Option, List}
+use Rattle.std.specs.Prelude.{◌≡◌, ℕ, Bool, Option, List}
 use Rattle.std.specs.Io.KnownBytes.{Appends}
-use Rattle.geo_session.specs.declared.state.Reply.{Reply}
-use Rattle.geo_session.specs.declared.state.Session.{Session}
-use Rattle.geo_session.specs.Answers.{State, answer_of}
+use Rattle.geo_session.specs.Answers.{has_refusal, printed_from}
 use Rattle.geo_session.specs.Printed.{text_of}
-use Rattle.geo_session.specs.Standing.{StandsFor}
+use Rattle.geo_script.specs.declared.script.Script.{Script}
+use Rattle.geo_script.specs.Places.{Place, StandsAt, given_at, place_after}
 
--- its whole reply was written, and the session stands for the next state
-pub record IsTaken (state : State) (line : List ℕ) (reply : Reply) (before after : Option (List ℕ)) (session : Session) : Type 0 where
-  pub reply_is : reply ≡ (answer_of state line).reply
-  pub writes : Appends before after (text_of (answer_of state line).printed)
-  pub stands : StandsFor session (answer_of state line).next
+-- the replies to what a line gives
+abbrev pub reply_text : Place → List ℕ → List ℕ
+reply_text place line = text_of (printed_from place.state (given_at place line))
+
+-- whether one of them is a refusal
+abbrev pub reply_refuses : Place → List ℕ → Bool
+reply_refuses place line = has_refusal place.state (given_at place line)
+
+-- they were all written, and the script stands at the next place
+pub record IsTaken (place : Place) (line : List ℕ) (refused : Bool) (before after : Option (List ℕ)) (script : Script) : Type 0 where
+  pub refuses : refused ≡ reply_refuses place line
+  pub writes : Appends before after (reply_text place line)
+  pub stands : StandsAt script (place_after place line)

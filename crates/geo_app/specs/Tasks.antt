@@ -9,7 +9,7 @@ use Rattle.std.specs.declared.alloc.Global.{Global}
 use Rattle.std.specs.declared.string.String.{String}
 use Rattle.geo_app.specs.declared.task.Request.{Request}
 use Rattle.geo_app.specs.declared.task.Task.{Task}
-use Rattle.geo_app.specs.declared.task.Task.TheVariants.{Run, Generate}
+use Rattle.geo_app.specs.declared.task.Task.TheVariants.{Run, Check, Generate, Batch}
 
 -- one digit or more, and no zero before others; 48 is `0`
 abbrev pub is_numeral : List ℕ → Bool
@@ -31,7 +31,7 @@ workers_in word = count_of (number_of word)
 
 -- the task of one word
 abbrev pub task_of_word : List ℕ → Option Task
-task_of_word word = if bytes_eq word (codes "run") then Some Run else None
+task_of_word word = if bytes_eq word (codes "run") then Some Run else if bytes_eq word (codes "check") then Some Check else if bytes_eq word (codes "batch") then Some Batch else None
 
 -- the task of `gen` and a seed
 abbrev pub task_with_seed : List ℕ → List ℕ → Option Task

@@ -9,24 +9,24 @@ ghost use Rattle.geo_app.specs.Outcomes.{IsAnswered, IsStopped};
 ghost use Rattle.geo_app.specs.Scripts.{Goes};
 
 use crate::program::Outcome;
-use crate::script::Script;
+use crate::replies::Replies;
 use geo_io::{LineEnd, Lines, Sink, SinkEnd, Source};
 use geo_settle::Gate;
 use std::alloc::Global;
 use std::thread::Threads;
 
-/// Takes one line of the source, has it carried out by the script, and only then takes the next. Of a line that
+/// Takes one line of the source, has the script carry it out, and only then takes the next. Of a line that
 /// is longer than `limit` bytes only these are carried out.
 pub(crate) fn carry_out<R: Threads + Sync, S: Source, K: Sink, G: Gate + Sync>(
     rt: &R,
     alloc: Global,
     limit: usize,
-    script: &mut Script,
+    replies: &mut Replies,
     source: &mut S,
     sink: &mut K,
     gate: &G,
 ) -> Outcome
-    ensures carried { (course : Course) → Goes script.old course → course.meanwhile [] ≡ [] → TakesBytes (S.left source.old) (S.left source.new) (λ taken. IsCarriedOut course limit result taken (S.left source.new) (K.held sink.old) (K.held sink.new)) }
+    ensures carried { (course : Course) → Goes replies.old course → course.meanwhile [] ≡ [] → TakesBytes (S.left source.old) (S.left source.new) (λ taken. IsCarriedOut course limit result taken (S.left source.new) (K.held sink.old) (K.held sink.new)) }
     ensures ended { IsAnswered result ⊎ IsStopped result }
     ensures read_fault { result ≡ Outcome.ReadFault → Rose (S.fault_count source.old) (S.fault_count source.new) }
     ensures write_fault { result ≡ Outcome.WriteFault → Rose (K.fault_count sink.old) (K.fault_count sink.new) }
@@ -38,17 +38,17 @@ pub(crate) fn carry_out<R: Threads + Sync, S: Source, K: Sink, G: Gate + Sync>(
     'lines: loop {
         match lines.next(source) {
             Ok(Some(line)) => {
-                if let Err(end) = script.take(rt, alloc, &line, sink, gate) {
+                if let Err(end) = replies.take(rt, alloc, &line, sink, gate) {
                     return stopped_by_sink(end);
                 }
             }
-            Ok(None) => return ended(script.end(sink)),
+            Ok(None) => return ended(replies.end(sink)),
             Err(end) => return stopped_by_source(end),
         }
     }
 }
 
-fn stopped_by_source(end: LineEnd) -> Outcome
+pub(crate) fn stopped_by_source(end: LineEnd) -> Outcome
     ensures { result ≡ outcome_of_source end }
 {
     match end {
@@ -58,7 +58,7 @@ fn stopped_by_source(end: LineEnd) -> Outcome
     }
 }
 
-fn stopped_by_sink(end: SinkEnd) -> Outcome
+pub(crate) fn stopped_by_sink(end: SinkEnd) -> Outcome
     ensures { result ≡ outcome_of_sink end }
 {
     match end {
@@ -68,7 +68,7 @@ fn stopped_by_sink(end: SinkEnd) -> Outcome
 }
 
 /// Where all was written.
-fn ended(end: Result<bool, SinkEnd>) -> Outcome
+pub(crate) fn ended(end: Result<bool, SinkEnd>) -> Outcome
     ensures { MatchResult end (λ refused. MatchBool refused (result ≡ Outcome.SomeRefused) (result ≡ Outcome.Done)) (λ stop. result ≡ outcome_of_sink stop) }
 {
     match end {

@@ -2,24 +2,36 @@
 //! draws.
 #![tactic(auto)]
 
+mod batch;
+#[cfg(test)]
+mod batches;
+mod batching;
 mod carrying;
+mod checks;
 #[cfg(test)]
 mod failing;
 #[cfg(test)]
 mod gates;
 mod generated;
 #[cfg(test)]
+mod hostile;
+#[cfg(test)]
 mod ledgers;
+mod long_jobs;
 mod long_lines;
 mod program;
+mod refusals;
+mod replies;
 #[cfg(test)]
 mod rows;
-mod script;
 #[cfg(test)]
 mod steps;
 mod task;
 #[cfg(test)]
+mod tools;
+#[cfg(test)]
 mod words;
+mod work;
 
 use geo_io::{ReadSource, WriteSink};
 use geo_settle::OpenGate;

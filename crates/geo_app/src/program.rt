@@ -4,15 +4,23 @@
 ghost use Rattle.std.specs.Prelude.{◌≡◌, ◌≢◌, ℕ, List, [], Option, ◌<◌, ◌≤◌, ◌^◌, ◌↔◌, ◌⊎◌, length, None, Some};
 ghost use Rattle.geo_io.specs.Faults.{Rose};
 ghost use Rattle.geo_io.specs.Pieces.{Takes};
+ghost use Rattle.geo_app.specs.declared.task.Request.{Request};
 ghost use Rattle.geo_app.specs.declared.task.Task.{Task as Aim};
 ghost use Rattle.geo_app.specs.Outcomes.{status_of, Headline, IsAnswered, IsStopped};
-ghost use Rattle.geo_app.specs.Tasks.{task_of};
+ghost use Rattle.geo_app.specs.Tasks.{request_of, task_of};
 
+use crate::batch::Batch;
+use crate::batching::carry_out_jobs;
 use crate::carrying::carry_out;
+use crate::checks::{Checks, check_lines};
 use crate::generated::run_generated;
+use crate::long_jobs::{long_jobs_are_answered_alike, verdicts_of_jobs_are_true};
 use crate::long_lines::long_lines_are_answered_alike;
-use crate::script::Script;
+use crate::replies::Replies;
 use crate::task::{Task, request_of};
+use geo_checker::{
+    answers_are_right, long_lines_are_answered_alike as long_certificates_are_answered_alike,
+};
 use geo_io::{Sink, SinkEnd, Source, SureSink, SureSource};
 use geo_session::printed_verdicts_are_true;
 use geo_settle::Gate;
@@ -22,10 +30,10 @@ use std::thread::Threads;
 /// How the program ends; the exit statuses are 0 to 6 in this order.
 #[derive(Clone, Copy, PartialEq, Eq, Debug)]
 pub enum Outcome {
-    /// The input was read to its end, no line was refused, and all replies were
-    /// written.
+    /// What there is to read was read to its end, no line or job was refused, no line was
+    /// found invalid, and all was written.
     Done,
-    /// The same, but a line was refused.
+    /// The same, but a line or a job was refused, or a line found invalid.
     SomeRefused,
     /// The words are none that the program knows; nothing was read or written.
     Usage,
@@ -67,7 +75,7 @@ pub fn run_program<R: Threads + Sync, S: Source, K: Sink, G: Gate + Sync>(
     sink: &mut K,
     gate: &G,
 ) -> Outcome
-    ensures headline { (task : Aim) → task_of words.now ≡ Some task → Takes (S.left source.old) (S.left source.new) (λ taken. Headline task result taken (S.left source.new) (K.held sink.old) (K.held sink.new)) }
+    ensures headline { (request : Request) → request_of words.now ≡ Some request → Takes (S.left source.old) (S.left source.new) (λ taken. Headline request.task request.workers result taken (S.left source.new) (K.held sink.old) (K.held sink.new)) }
     ensures usage { (result ≡ Outcome.Usage) ↔ (task_of words.now ≡ None) }
     ensures untouched { result ≡ Outcome.Usage → (source.new ≡ source.old) × (sink.new ≡ sink.old) }
     ensures read_fault { result ≡ Outcome.ReadFault → Rose (S.fault_count source.old) (S.fault_count source.new) }
@@ -78,7 +86,9 @@ pub fn run_program<R: Threads + Sync, S: Source, K: Sink, G: Gate + Sync>(
     match request_of(words) {
         Some(request) => match request.task {
             Task::Run => run(rt, alloc, request.workers, source, sink, gate),
+            Task::Check => check(alloc, source, sink),
             Task::Generate(seed) => generate(rt, alloc, seed, request.workers, sink, gate),
+            Task::Batch => run_batch(rt, alloc, request.workers, source, sink),
         },
         None => Outcome::Usage,
     }
@@ -93,7 +103,7 @@ pub fn run_in_memory<R: Threads + Sync, G: Gate + Sync>(
     sink: &mut SureSink,
     gate: &G,
 ) -> Outcome
-    ensures headline { (task : Aim) → task_of words.now ≡ Some task → Takes (Some source.old) (Some source.new) (λ taken. Headline task result taken (Some source.new) (Some sink.old) (Some sink.new)) }
+    ensures headline { (request : Request) → request_of words.now ≡ Some request → Takes (Some source.old) (Some source.new) (λ taken. Headline request.task request.workers result taken (Some source.new) (Some sink.old) (Some sink.new)) }
     ensures usage { (result ≡ Outcome.Usage) ↔ (task_of words.now ≡ None) }
     ensures untouched { result ≡ Outcome.Usage → (source.new ≡ source.old) × (sink.new ≡ sink.old) }
     ensures sure { (result ≢ Outcome.ReadFault) × (result ≢ Outcome.WriteFault) }
@@ -103,9 +113,12 @@ pub fn run_in_memory<R: Threads + Sync, G: Gate + Sync>(
     run_program(rt, alloc, words, source, sink, gate)
 }
 
-/// The bytes of a line that are read: one more than a line may have, so that a line that is too
-/// long still is.
+/// The bytes that are read of a line of a script: one more than it may have, so that a line that
+/// is too long still is.
 const SCRIPT_LINE: usize = 201;
+
+/// And of one that may be a certificate.
+const CERTIFICATE_LINE: usize = 65_537;
 
 /// Carries out each line of a script as soon as it is read.
 fn run<R: Threads + Sync, S: Source, K: Sink, G: Gate + Sync>(
@@ -117,17 +130,54 @@ fn run<R: Threads + Sync, S: Source, K: Sink, G: Gate + Sync>(
     gate: &G,
 ) -> Outcome
     requires { (0 < workers) × (workers ≤ 16) }
-    ensures headline { Takes (S.left source.old) (S.left source.new) (λ taken. Headline Task.Run result taken (S.left source.new) (K.held sink.old) (K.held sink.new)) }
+    ensures headline { Takes (S.left source.old) (S.left source.new) (λ taken. Headline Task.Run workers result taken (S.left source.new) (K.held sink.old) (K.held sink.new)) }
     ensures ended { IsAnswered result ⊎ IsStopped result }
     ensures read_fault { result ≡ Outcome.ReadFault → Rose (S.fault_count source.old) (S.fault_count source.new) }
     ensures write_fault { result ≡ Outcome.WriteFault → Rose (K.fault_count sink.old) (K.fault_count sink.new) }
 {
     printed_verdicts_are_true();
     long_lines_are_answered_alike();
-    match Script::new(alloc, workers) {
-        Ok(mut script) => carry_out(rt, alloc, SCRIPT_LINE, &mut script, source, sink, gate),
+    match Replies::new(alloc, workers) {
+        Ok(mut replies) => carry_out(rt, alloc, SCRIPT_LINE, &mut replies, source, sink, gate),
         Err(_) => Outcome::NoMemory,
     }
+}
+
+/// The bytes of a line of a batch that are kept: with one more for the end of the line, one more than
+/// a job may have.
+const BATCH_LINE: usize = 65_537;
+
+/// Carries out many scripts, each on its own, so many side by side.
+fn run_batch<R: Threads + Sync, S: Source, K: Sink>(
+    rt: &R,
+    alloc: Global,
+    workers: u64,
+    source: &mut S,
+    sink: &mut K,
+) -> Outcome
+    requires { (0 < workers) × (workers ≤ 16) }
+    ensures headline { Takes (S.left source.old) (S.left source.new) (λ taken. Headline Task.Batch workers result taken (S.left source.new) (K.held sink.old) (K.held sink.new)) }
+    ensures ended { IsAnswered result ⊎ IsStopped result }
+    ensures read_fault { result ≡ Outcome.ReadFault → Rose (S.fault_count source.old) (S.fault_count source.new) }
+    ensures write_fault { result ≡ Outcome.WriteFault → Rose (K.fault_count sink.old) (K.fault_count sink.new) }
+{
+    long_jobs_are_answered_alike();
+    verdicts_of_jobs_are_true();
+    let mut batch = Batch::new(alloc, workers);
+    carry_out_jobs(rt, alloc, BATCH_LINE, &mut batch, source, sink)
+}
+
+/// Checks each line of certificates as soon as it is read, one after the other.
+fn check<S: Source, K: Sink>(alloc: Global, source: &mut S, sink: &mut K) -> Outcome
+    ensures headline { (workers : ℕ) → Takes (S.left source.old) (S.left source.new) (λ taken. Headline Task.Check workers result taken (S.left source.new) (K.held sink.old) (K.held sink.new)) }
+    ensures ended { IsAnswered result ⊎ IsStopped result }
+    ensures read_fault { result ≡ Outcome.ReadFault → Rose (S.fault_count source.old) (S.fault_count source.new) }
+    ensures write_fault { result ≡ Outcome.WriteFault → Rose (K.fault_count sink.old) (K.fault_count sink.new) }
+{
+    answers_are_right();
+    long_certificates_are_answered_alike();
+    let mut checks = Checks::new(alloc);
+    check_lines(alloc, CERTIFICATE_LINE, &mut checks, source, sink)
 }
 
 /// Carries out a generated script, for which nothing is read.
@@ -141,7 +191,7 @@ fn generate<R: Threads + Sync, K: Sink, G: Gate + Sync>(
     gate: &G,
 ) -> Outcome
     requires { (0 < workers) × (workers ≤ 16) }
-    ensures headline { (left : Option (List ℕ)) → Headline (Task.Generate seed) result [] left (K.held sink.old) (K.held sink.new) }
+    ensures headline { (left : Option (List ℕ)) → Headline (Task.Generate seed) workers result [] left (K.held sink.old) (K.held sink.new) }
     ensures ended { (result ≡ Outcome.Done) ⊎ ((result ≡ Outcome.WriteFault) ⊎ (result ≡ Outcome.NoMemory)) }
     ensures write_fault { result ≡ Outcome.WriteFault → Rose (K.fault_count sink.old) (K.fault_count sink.new) }
 {

@@ -11,11 +11,16 @@ ghost use Rattle.geo_app.specs.Tasks.{is_numeral, number_of, request_of, task_of
 pub enum Task {
     /// To read a script, and to carry out each of its lines.
     Run,
+    /// To read certificates, and to check each of them.
+    Check,
     /// To carry out the script of a seed, and to count its answers.
     Generate(u32),
+    /// To read many scripts, and to carry out each on its own.
+    Batch,
 }
 
-/// A task, and how many threads may work at it at once, from 1 to 16.
+/// A task, and how many threads may work at it at once, from 1 to 16; of a batch so many scripts run
+/// side by side.
 #[derive(Clone, Copy, PartialEq, Eq, Debug)]
 pub struct Request {
     pub task: Task,
@@ -56,6 +61,8 @@ fn task_of_word(word: &String) -> Option<Task>
 {
     match word.as_str() {
         "run" => Some(Task::Run),
+        "check" => Some(Task::Check),
+        "batch" => Some(Task::Batch),
         _ => None,
     }
 }

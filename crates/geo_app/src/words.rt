@@ -46,7 +46,24 @@ fn knows_the_forms(rt: HostRuntime) -> Result<(), AllocError> {
     Ok(())
 }
 
-const OTHERS: [&[&str]; 26] = [
+const CHECKS: [&[&str]; 3] = [
+    &["check"],
+    &["check", "--workers", "1"],
+    &["check", "--workers", "16"],
+];
+
+#[test]
+fn checks_lines(rt: HostRuntime) -> Result<(), AllocError> {
+    for words in CHECKS {
+        let mut sink = SureSink::new(rt.alloc());
+        let outcome = run_over_line(&rt, rt.alloc(), words, &mut sink)?;
+        assert_eq!(rt; outcome, Outcome::SomeRefused);
+        assert_eq!(rt; sink.held(), b"invalid 1\n".as_slice());
+    }
+    Ok(())
+}
+
+const OTHERS: [&[&str]; 34] = [
     &[],
     &[""],
     &["Run"],
@@ -62,6 +79,10 @@ const OTHERS: [&[&str]; 26] = [
     &["run", "--worker", "2"],
     &["run", "--workers", "2", "2"],
     &["--workers", "2", "run"],
+    &["check", "check"],
+    &["check", "--workers", "0"],
+    &["check", "7"],
+    &["check", "7", "--workers", "1"],
     &["gen"],
     &["gen", ""],
     &["gen", "-1"],
@@ -73,6 +94,10 @@ const OTHERS: [&[&str]; 26] = [
     &["gen", "--workers", "1", "7"],
     &["gen", "7", "--workers", "0"],
     &["gen", "7", "--workers", "1", "1"],
+    &["batch", "2"],
+    &["batch", "--workers", "0"],
+    &["batch", "--workers", "17"],
+    &["Batch"],
 ];
 
 #[test]

@@ -1,6 +1,7 @@
 //! Running jobs.
 
 ghost use Rattle.std.specs.Prelude.{◌≡◌, ◌<◌, ◌≤◌, ℕ, length, map, Option, IfOk, IfSome, OnOk, Some, slice_index_or};
+ghost use Rattle.std.specs.Thread.{IsSync};
 
 use crate::NoMemory;
 use std::alloc::{AllocError, Global};
@@ -13,6 +14,7 @@ pub trait Job: Drop {
 
     /// Runs the job, which may start threads of its own.
     fn run<R: Threads + Sync>(&mut self, rt: &R) -> Result<(), NoMemory>
+        requires { IsSync R.row }
         ensures { OnOk result (self.new ≡ done self.old) };
 }
 

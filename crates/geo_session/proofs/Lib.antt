@@ -1,3 +1,4 @@
+mod CertificateLaws
 mod GuessLaws
 mod KeptLaws
 mod LedgerLaws

@@ -11,7 +11,7 @@ use Rattle.geo_sketch.specs.declared.statements.Statement.{Statement}
 use Rattle.geo_sketch.specs.Sketches.{Drawing, blank, claim_limit, IsDrawn}
 use Rattle.geo_sketch.specs.Changes.{all_but_last, AllLead, LeadsFrom}
 use Rattle.geo_sketch.specs.Additions.{addition_of}
-use Rattle.geo_sketch.specs.Claims.{claim_of, claiming, claiming_ordered, in_order, is_claimed, meaning_of}
+use Rattle.geo_sketch.specs.Claims.{claim_of, claiming, claiming_ordered, in_order, is_claimed, meaning_of, resolution_of}
 use Rattle.geo_sketch.specs.Drags.{drag_of}
 use Rattle.geo_sketch.specs.Drops.{drop_of}
 use Rattle.geo_sketch.proofs.ChangeLaws.{blank_drawn, lead_both, lead_front, made_drawn}
@@ -26,7 +26,7 @@ use Rattle.geo_parse.specs.Reading.{read_of}
 use Rattle.geo_parse.specs.Words.{words}
 use Rattle.geo_infer.specs.Derivations.{inference_of}
 use Rattle.geo_infer.specs.Words.{begins_with}
-use Rattle.geo_session.specs.Answers.{Answer, State, drawing_of, answer_beside, answer_by, answer_of, answer_to, changed, concluded, counted, done_again, is_no_command, last_of, refused, taken_back_to}
+use Rattle.geo_session.specs.Answers.{Answer, State, drawing_of, answer_beside, answer_by, answer_of, answer_to, certified, changed, concluded, counted, done_again, is_no_command, last_of, refused, taken_back_to}
 use Rattle.geo_session.proofs.SmallNumbers.{IsSmallCommand, IsSmallRead, read_small}
 use Rattle.geo_session.proofs.StateLaws.{front_is}
 
@@ -75,6 +75,10 @@ module _ (state : State) (h : IsReached state) where
   redo_reached [] q = h
   redo_reached (d ∷ ds) q = subst (AllLead blank) (ap (λ es. state.done ++ es) q ∙ sym (append_assoc state.done (d ∷ []) ds)) h
 
+  certify_reached : (r : Result Statement Refusal) → IsReached (certified state r).next
+  certify_reached (Err r) = h
+  certify_reached (Ok s) = h
+
   command_reached : (c : Command) → IsSmallCommand c → IsReached (answer_to state c).next
   command_reached (command.Add name kind spec) small = change_reached (addition_of (drawing_of state) name kind spec) (λ d. addition_leads (drawing_of state) name kind spec d (reached_drawn state h) small)
   command_reached (command.Claim said) small = change_reached (claim_of (drawing_of state) said) (λ d. any_claim_leads (drawing_of state) said d (reached_drawn state h))
@@ -86,7 +90,7 @@ module _ (state : State) (h : IsReached state) where
   command_reached command.Redo small = redo_reached state.undone refl
   command_reached command.Conjectures small = h
   command_reached command.Ledger small = h
-  command_reached (command.Certify said) small = h
+  command_reached (command.Certify said) small = certify_reached (resolution_of (drawing_of state) said)
   command_reached command.Svg small = h
   command_reached (command.Show k) small = h
   command_reached (command.Close k) small = h

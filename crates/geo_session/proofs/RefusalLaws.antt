@@ -7,7 +7,7 @@ use Rattle.geo_sketch.specs.declared.changes.Refusal.{Refusal}
 use Rattle.geo_sketch.specs.declared.changes.Refusal.TheVariants as refusal
 use Rattle.geo_sketch.specs.declared.statements.Statement.{Statement}
 use Rattle.geo_sketch.specs.Additions.{addition_of}
-use Rattle.geo_sketch.specs.Claims.{claim_of}
+use Rattle.geo_sketch.specs.Claims.{claim_of, resolution_of}
 use Rattle.geo_sketch.specs.Drags.{drag_of}
 use Rattle.geo_sketch.specs.Drops.{drop_of}
 use Rattle.geo_parse.specs.declared.commands.Command.{Command}
@@ -18,7 +18,7 @@ use Rattle.geo_infer.specs.Derivations.{inference_of}
 use Rattle.geo_infer.specs.Words.{begins_with}
 use Rattle.geo_session.specs.declared.state.Reply.{Reply}
 use Rattle.geo_session.specs.declared.state.Reply.TheVariants.{Refused}
-use Rattle.geo_session.specs.Answers.{Answer, State, drawing_of, answer_beside, answer_by, answer_of, answer_to, changed, concluded, counted, done_again, is_no_command, last_of, refused, taken_back_to}
+use Rattle.geo_session.specs.Answers.{Answer, State, drawing_of, answer_beside, answer_by, answer_of, answer_to, certified, changed, concluded, counted, done_again, is_no_command, last_of, refused, taken_back_to}
 
 -- where an answer to a line refuses
 abbrev RefusesOnly : State → Answer → Type 0
@@ -39,6 +39,10 @@ redo_refuses : (state : State) (ds : List Delta) → RefusesOnly state (done_aga
 redo_refuses state [] r is = refusal_only state refusal.Nothing r is
 redo_refuses state (d ∷ ds) r is = cc
 
+certify_refuses : (state : State) (x : Result Statement Refusal) → RefusesOnly state (certified state x)
+certify_refuses state (Ok s) r is = cc
+certify_refuses state (Err x) r is = refusal_only state x r is
+
 command_refuses : (state : State) (c : Command) → RefusesOnly state (answer_to state c)
 command_refuses state (command.Add name kind spec) r is = change_refuses state (addition_of (drawing_of state) name kind spec) r is
 command_refuses state (command.Claim said) r is = change_refuses state (claim_of (drawing_of state) said) r is
@@ -50,7 +54,7 @@ command_refuses state command.Undo r is = undo_refuses state (last_of state.done
 command_refuses state command.Redo r is = redo_refuses state state.undone r is
 command_refuses state command.Conjectures r is = cc
 command_refuses state command.Ledger r is = cc
-command_refuses state (command.Certify said) r is = refusal_only state refusal.Command r is
+command_refuses state (command.Certify said) r is = certify_refuses state (resolution_of (drawing_of state) said) r is
 command_refuses state command.Svg r is = refusal_only state refusal.Command r is
 command_refuses state (command.Show k) r is = refusal_only state refusal.Command r is
 command_refuses state (command.Close k) r is = refusal_only state refusal.Command r is

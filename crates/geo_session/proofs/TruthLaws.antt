@@ -5,6 +5,7 @@ use Rattle.std.specs.List.{AllByRecursion}
 use Rattle.std.proofs.lemmas.Bool.{cond_both, cond-false, cond-true, eq-eqb, ne_eqb}
 use Rattle.std.proofs.lemmas.List.{length-map}
 use Rattle.std.proofs.lemmas.List.Elements.{recursion_from_All}
+use Rattle.geo_sketch.proofs.ClaimLaws.{resolution_posed}
 use Rattle.geo_sketch.proofs.SketchLaws.{constructed}
 use Rattle.geo_sketch.specs.declared.changes.Delta.{Delta}
 use Rattle.geo_sketch.specs.declared.changes.Refusal.{Refusal}
@@ -15,7 +16,7 @@ use Rattle.geo_sketch.specs.declared.verdicts.Verdict.{Verdict}
 use Rattle.geo_sketch.specs.declared.verdicts.Verdict.TheVariants.{Proved, False, Unsettled}
 use Rattle.geo_sketch.specs.Additions.{addition_of}
 use Rattle.geo_sketch.specs.Assignments.{assignment_of}
-use Rattle.geo_sketch.specs.Claims.{claim_of}
+use Rattle.geo_sketch.specs.Claims.{claim_of, resolution_of}
 use Rattle.geo_sketch.specs.Drags.{drag_of}
 use Rattle.geo_sketch.specs.Drops.{drop_of}
 use Rattle.geo_sketch.specs.Samples.{sample_value}
@@ -39,10 +40,11 @@ use Rattle.geo_parse.specs.Words.{words}
 use Rattle.geo_infer.specs.Derivations.{inference_of}
 use Rattle.geo_infer.specs.Words.{begins_with}
 use Rattle.geo_session.specs.declared.state.Session.{Session}
-use Rattle.geo_session.specs.Answers.{Answer, State, drawing_of, answer_beside, answer_by, answer_of, answer_to, changed, concluded, counted, done_again, is_no_command, last_of, printed_from, refused, taken_back_to}
+use Rattle.geo_session.specs.Answers.{Answer, State, drawing_of, answer_beside, answer_by, answer_of, answer_to, certified, changed, concluded, counted, done_again, is_no_command, last_of, printed_from, refused, taken_back_to}
 use Rattle.geo_session.specs.Printed.{Piece, LedgerLine, AreTrue, IsTruePiece, ledger_lines}
 use Rattle.geo_session.specs.Standing.{StandsFor}
 use Rattle.geo_session.specs.Truth.{IsTrue}
+use Rattle.geo_session.proofs.CertificateLaws.{piece_true}
 use Rattle.geo_session.proofs.ReachedStates.{IsReached, line_reached, reached_drawn}
 
 -- ---- false at the printed values
@@ -120,6 +122,13 @@ module _ (right : HasVerdicts) (inferred_holds : InferredHolds) where
   redo_true state [] = (tt, tt)
   redo_true state (d ∷ ds) = (tt, tt)
 
+  certify_true : (state : State) (r : Result Statement Refusal) → ((s : Statement) → r ≡ Ok s → IsPosed (drawing_of state).elements s) → IsDrawn (drawing_of state) → AreTrue (certified state r).printed
+  certify_true state (Err r) posed drawn = (tt, tt)
+  certify_true state (Ok s) posed drawn =
+      let es = (drawing_of state).elements in
+      let r = verdict_of (question_of es s) in
+      (piece_true (drawing_of state) s r drawn (verdict_true (drawing_of state) s r drawn (right (drawing_of state) s drawn (posed s refl))), tt)
+
   command_true : (state : State) (c : Command) → IsDrawn (drawing_of state) → AreTrue (answer_to state c).printed
   command_true state (command.Add name kind spec) drawn = change_true state (addition_of (drawing_of state) name kind spec)
   command_true state (command.Claim said) drawn = change_true state (claim_of (drawing_of state) said)
@@ -131,7 +140,7 @@ module _ (right : HasVerdicts) (inferred_holds : InferredHolds) where
   command_true state command.Redo drawn = redo_true state state.undone
   command_true state command.Conjectures drawn = (tt, tt)
   command_true state command.Ledger drawn = ledger_true (drawing_of state) drawn
-  command_true state (command.Certify said) drawn = (tt, tt)
+  command_true state (command.Certify said) drawn = certify_true state (resolution_of (drawing_of state) said) (λ s h. resolution_posed (drawing_of state) said s drawn h) drawn
   command_true state command.Svg drawn = (tt, tt)
   command_true state (command.Show k) drawn = (tt, tt)
   command_true state (command.Close k) drawn = (tt, tt)

@@ -8,7 +8,7 @@ use Rattle.geo_sketch.specs.declared.statements.Statement.{Statement}
 use Rattle.geo_sketch.specs.Sketches.{Drawing}
 use Rattle.geo_sketch.specs.Changes.{made_of, all_but_last}
 use Rattle.geo_sketch.specs.Additions.{addition_of}
-use Rattle.geo_sketch.specs.Claims.{claim_of}
+use Rattle.geo_sketch.specs.Claims.{claim_of, resolution_of}
 use Rattle.geo_sketch.specs.Drags.{drag_of}
 use Rattle.geo_sketch.specs.Drops.{drop_of}
 use Rattle.geo_parse.specs.declared.commands.Command.{Command}
@@ -22,7 +22,7 @@ use Rattle.geo_session.specs.declared.state.Reply.{Reply}
 use Rattle.geo_session.specs.declared.state.Reply.TheVariants as reply
 use Rattle.geo_session.specs.LedgerTexts.{conjectures_text}
 use Rattle.geo_session.specs.Texts.{screen_text, ok_line, refusal_line}
-use Rattle.geo_session.specs.Printed.{InferredLine, Piece, Text, ledger_lines}
+use Rattle.geo_session.specs.Printed.{InferredLine, Piece, Text, certified_piece, ledger_lines}
 
 -- the changes that are done, those that were undone, and how many lines were read
 pub record State : Type 0 where
@@ -80,6 +80,11 @@ abbrev pub done_again : State → List Delta → Answer
 done_again state [] = refused state refusal.Nothing
 done_again state (d ∷ ds) = moved state (state.done ++ (d ∷ [])) ds
 
+-- the certificate of the statement is printed, or its line of the ledger; or it is refused
+abbrev pub certified : State → Result Statement Refusal → Answer
+certified state (Err r) = refused state r
+certified state (Ok s) = replied state (certified_piece (drawing_of state).elements s ∷ [])
+
 -- to a command, on the line that was counted last
 abbrev pub answer_to : State → Command → Answer
 answer_to state (command.Add name kind spec) = changed state (addition_of (drawing_of state) name kind spec)
@@ -92,7 +97,7 @@ answer_to state command.Undo = taken_back_to state (last_of state.done)
 answer_to state command.Redo = done_again state state.undone
 answer_to state command.Conjectures = replied state (Text (conjectures_text (drawing_of state)) ∷ [])
 answer_to state command.Ledger = replied state (ledger_lines (drawing_of state))
-answer_to state (command.Certify said) = refused state refusal.Command
+answer_to state (command.Certify said) = certified state (resolution_of (drawing_of state) said)
 answer_to state command.Svg = refused state refusal.Command
 answer_to state (command.Show k) = refused state refusal.Command
 answer_to state (command.Close k) = refused state refusal.Command

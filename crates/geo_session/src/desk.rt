@@ -115,6 +115,7 @@ impl Desk {
             Command::Screen => self.screen(alloc, out),
             Command::Conjectures => self.conjectures(out),
             Command::Ledger => self.ledger(rt, alloc, out, gate),
+            Command::Certify(said) => self.certify(rt, alloc, said, out, gate),
             _ => self.refuse(alloc, Refusal::Command, out),
         }
     }

@@ -83,7 +83,7 @@ fn write_entries(
     Ok(())
 }
 
-fn write_line(
+pub(crate) fn write_line(
     alloc: Global,
     elements: &[Element],
     statement: &Statement,

@@ -1,6 +1,7 @@
 //! One script's state: what is answered to each line.
 #![tactic(auto)]
 
+mod certifying;
 mod desk;
 mod edits;
 mod followers;

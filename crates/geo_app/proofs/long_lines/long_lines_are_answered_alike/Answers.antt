@@ -1,11 +1,11 @@
-use Rattle.geo_app.proofs.LongLines.{read_alike, printed_alike, refused_alike}
+use Rattle.geo_app.proofs.LongLines.{read_alike, all_printed_alike, all_refused_alike}
 use Rattle.geo_app.proofs.long_lines.long_lines_are_answered_alike.Goals as goal
 
 pub returns-clause-read : goal.returns-clause-read
 returns-clause-read c line = read_alike line
 
 pub returns-clause-printed : goal.returns-clause-printed
-returns-clause-printed c state lines = printed_alike state lines
+returns-clause-printed c lines = all_printed_alike c.cut_lines_expand_alike.ensures lines
 
 pub returns-clause-refused : goal.returns-clause-refused
-returns-clause-refused c state lines = refused_alike state lines
+returns-clause-refused c lines = all_refused_alike c.cut_lines_expand_alike.ensures lines

@@ -1,0 +1,95 @@
+-- What is made of the lines to come, each of which may be a certificate, and what that is for the whole program.
+use Rattle.std.proofs.Common.{◌≡◌, ◌∙◌, sym, ap, subst, refl, inl, inr, ◌⊎◌, arith, ℕ, ◌^◌, ◌≤◌, ◌++◌, length, Bool, true, false, ◌||◌, Option, None, Some, List, [], ◌∷◌, take, map, append_assoc, append-nil}
+use Rattle.std.specs.Io.KnownBytes.{Appends, Consumes}
+use Rattle.std.proofs.KnownBytes.{Appends-nil}
+use Rattle.std.proofs.lemmas.Grind.{flat_map-append}
+use Rattle.std.proofs.lemmas.List.{length-append}
+use Rattle.std.proofs.lemmas.List.Folds.{list_any-append}
+use Rattle.geo_checker.specs.Answers.{Answered, answer_text, answered, answers_to, has_invalid, is_invalid, text_of}
+use Rattle.geo_checker.specs.Truth.{AreRight}
+use Rattle.geo_io.specs.Lines.{lines_of, whole_lines_of}
+use Rattle.geo_io.specs.Pieces.{AppendsFront}
+use Rattle.geo_app.specs.Checking.{check_course}
+use Rattle.geo_app.specs.Courses.{Course, Takes, IsCarriedOut}
+use Rattle.geo_app.specs.declared.program.Outcome.{Outcome}
+use Rattle.geo_app.specs.declared.program.Outcome.TheVariants.{NoMemory, ReadFault, WriteFault}
+use Rattle.geo_app.specs.declared.task.Task.TheVariants.{Check}
+use Rattle.geo_app.specs.Outcomes.{Headline, IsAnswered, IsStopped}
+use Rattle.geo_app.proofs.PlaceTexts.{or_assoc, or_false}
+
+text_first : (line : List ℕ) (lines : List (List ℕ)) → text_of (answered (line ∷ lines)) ≡ text_of (answers_to line) ++ text_of (answered lines)
+text_first line lines = flat_map-append (λ (a : Answered). answer_text a.answer) (answers_to line) (answered lines)
+
+invalid_first : (line : List ℕ) (lines : List (List ℕ)) → has_invalid (answered (line ∷ lines)) ≡ (has_invalid (answers_to line) || has_invalid (answered lines))
+invalid_first line lines = list_any-append (λ (a : Answered). is_invalid a.answer) (answers_to line) (answered lines)
+
+takes_line : (line : List ℕ) (invalid found either : Bool) → found ≡ has_invalid (answers_to line) → either ≡ (invalid || found) → Takes (check_course invalid) (check_course either) line (text_of (answers_to line))
+takes_line line invalid found either is joined = record {
+  text = λ lines. text_first line lines;
+  meanwhile = λ lines. text_first line lines;
+  refuses = λ lines. ap (λ b. invalid || b) (invalid_first line lines) ∙ or_assoc invalid (has_invalid (answers_to line)) (has_invalid (answered lines)) ∙ ap (λ b. b || has_invalid (answered lines)) (ap (λ b. invalid || b) (sym is) ∙ sym joined);
+  silent = refl;
+}
+
+-- a line was checked
+pub line_checked : (line : List ℕ) (invalid found either : Bool) (held held' : Option (List ℕ)) → Appends held held' (text_of (answers_to line)) → found ≡ has_invalid (answers_to line) → either ≡ (invalid || found)
+    → (course : Course) → course ≡ check_course invalid → (next : Course) × (next ≡ check_course either) × ((written : List ℕ) × Appends held held' written × Takes course next line written)
+line_checked line invalid found either held held' writes is joined course goes =
+    let text = text_of (answers_to line) in (
+      check_course either,
+      refl,
+      (text, writes, subst (λ (c : Course). Takes c (check_course either) line text) (sym goes) (takes_line line invalid found either is joined)),
+    )
+
+-- or its answer was written in part
+pub line_cut : (line : List ℕ) (invalid : Bool) (held held' : Option (List ℕ)) → AppendsFront held held' (text_of (answers_to line)) → (course : Course) (lines : List (List ℕ)) → course ≡ check_course invalid → AppendsFront held held' (course.text (line ∷ lines))
+line_cut line invalid held held' (front, rest, is, appends) course lines goes = (
+  front,
+  rest ++ text_of (answered lines),
+  ap (λ (c : Course). c.text (line ∷ lines)) goes ∙ text_first line lines ∙ ap (λ l. l ++ text_of (answered lines)) is ∙ append_assoc front rest (text_of (answered lines)),
+  appends,
+)
+
+-- at the end nothing more is written
+pub over : (invalid : Bool) (held : Option (List ℕ)) (course : Course) → course ≡ check_course invalid → Appends held held (course.text []) × (invalid ≡ course.refuses [])
+over invalid held course goes = (subst (λ (l : List ℕ). Appends held held l) (sym (ap (λ (c : Course). c.text []) goes)) (Appends-nil held), sym (or_false invalid) ∙ sym (ap (λ (c : Course). c.refuses []) goes))
+
+-- what was made of lines that were cut is what the lines make
+pub certificates_checked : (workers : ℕ) (outcome : Outcome) (taken : List ℕ) (left before after : Option (List ℕ)) → IsCarriedOut (check_course false) 65537 outcome taken left before after
+    → ((lines : List (List ℕ)) → text_of (answered (map (take 65537) lines)) ≡ text_of (answered lines)) → ((lines : List (List ℕ)) → has_invalid (answered (map (take 65537) lines)) ≡ has_invalid (answered lines)) → AreRight (answered (lines_of taken))
+    → Headline Check workers outcome taken left before after
+certificates_checked workers outcome taken left before after carried alike invalid_alike right =
+    let text = alike (lines_of taken) ∙ sym (append-nil (text_of (answered (lines_of taken)))) in
+    let whole = alike (whole_lines_of taken) in
+    let invalid = invalid_alike (lines_of taken) in record {
+      answered = λ a.
+          let all = carried.answered a in
+          (all.0, subst (λ (l : List ℕ). Appends before after l) text all.1, (λ e. sym invalid ∙ all.2.0 e, λ e. all.2.1 (invalid ∙ e)));
+      stopped = λ s. subst (λ (l : List ℕ). AppendsFront before after l) text (carried.stopped s);
+      read_fault = λ e. subst (λ (l : List ℕ). Appends before after l) whole (carried.read_fault e);
+      too_long = carried.too_long;
+      true_verdicts = (tt, tt);
+      right_answers = right;
+    }
+
+-- no more is taken than there is
+taken_few : (bytes taken : List ℕ) (left after : Option (List ℕ)) → left ≡ Some bytes → Consumes left after taken → length taken ≤ length bytes
+taken_few bytes taken None after is consumes = absurd (cc)
+taken_few bytes taken (Some xs) None is consumes = absurd consumes
+taken_few bytes taken (Some xs) (Some ys) is consumes =
+    let same : xs ≡ bytes = cc in
+    let all : length bytes ≡ length (taken ++ ys) = ap length (sym same ∙ consumes) in
+    let parts = length-append taken ys in
+    omega (arith, all, parts)
+
+-- without a fault the certificates are checked to their end, or memory was wanting
+pub finished : (workers : ℕ) (outcome : Outcome) (bytes taken : List ℕ) (left after before held : Option (List ℕ)) → IsAnswered outcome ⊎ IsStopped outcome → left ≡ Some bytes → Consumes left after taken → Headline Check workers outcome taken after before held → length bytes ≤ 2 ^ 24
+    → (outcome ≡ ReadFault → ⊥) → (outcome ≡ WriteFault → ⊥) → IsAnswered outcome ⊎ (outcome ≡ NoMemory)
+finished workers outcome bytes taken left after before held (inl answered) is consumes told few no_read no_write = inl answered
+finished workers outcome bytes taken left after before held (inr (inl read)) is consumes told few no_read no_write = absurd (no_read read)
+finished workers outcome bytes taken left after before held (inr (inr (inl write))) is consumes told few no_read no_write = absurd (no_write write)
+finished workers outcome bytes taken left after before held (inr (inr (inr (inl long)))) is consumes told few no_read no_write =
+    let more = told.too_long.0 long in
+    let shorter = taken_few bytes taken left after is consumes in
+    absurd (omega (arith, more, shorter, few))
+finished workers outcome bytes taken left after before held (inr (inr (inr (inr none)))) is consumes told few no_read no_write = inr none

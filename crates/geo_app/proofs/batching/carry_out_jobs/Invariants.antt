@@ -1,0 +1,21 @@
+use Rattle.std.proofs.Common.{◌≡◌, ◌+◌, ◌-◌, ◌^◌, ◌≤◌, ◌<◌, [], length}
+use Rattle.geo_io.specs.Taking.{IsRightOnEnd}
+use Rattle.geo_app.specs.Courses.{Course}
+use Rattle.geo_app.specs.Gatherings.{Gathers}
+use Rattle.geo_app.proofs.Progress.{Progress}
+use Rattle.geo_app.proofs.batching.carry_out_jobs.Given as goal
+
+abbrev pub invariant-lines : goal.invariant-lines
+invariant-lines g l = record {
+  progress : (course : Course) → Gathers l.fn.batch course → course.meanwhile [] ≡ [] → Progress course l.fn.limit l.lines (Gathers l.batch) (g.S.Source.left l.fn.source) (g.S.Source.left l.source) (g.K.Sink.held l.fn.sink) (g.K.Sink.held l.sink);
+  few : l.lines.taken ≤ 2 ^ 24;
+  end : IsRightOnEnd l.lines (g.S.Source.left l.source);
+  reads : g.S.Source.fault_count l.fn.source ≤ g.S.Source.fault_count l.source;
+  waiting : length l.batch.waiting.items < l.batch.workers;
+  workers : l.batch.workers ≤ 16;
+  number : l.batch.begun.number + length l.lines.held ≤ l.lines.taken + 1;
+  writes : g.K.Sink.fault_count l.fn.sink ≤ g.K.Sink.fault_count l.sink;
+}
+
+abbrev pub decreases-lines : goal.decreases-lines
+decreases-lines g l = (2 ^ 24 - l.lines.taken) + length l.lines.held
