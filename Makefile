@@ -1,17 +1,20 @@
 # make: proves and builds the program. make test: the gate. make install PREFIX=.. and make uninstall PREFIX=..: the
 # program, its manual pages, completion for bash and zsh, and the examples. The installed program needs nothing of this
-# repository.
+# repository. make gallery: the figures of examples/ as one page, docs/gallery.html.
 PREFIX ?= /usr/local
 at = $(DESTDIR)$(PREFIX)
 program = crates/geo_app/out/geo_app
 
-.PHONY: all test install uninstall
+.PHONY: all test gallery install uninstall
 
 all:
 	@echo | ./bukshena run
 
 test:
 	bash .ci/run
+
+gallery:
+	python3 contrib/gallery/make.py
 
 install: all
 	install -D -m 755 launcher/installed.sh $(at)/bin/bukshena
@@ -22,8 +25,9 @@ install: all
 	install -D -m 644 contrib/man/bukshena-language.5 $(at)/share/man/man5/bukshena-language.5
 	install -D -m 644 contrib/completion/bukshena.bash $(at)/share/bash-completion/completions/bukshena
 	install -D -m 644 contrib/completion/_bukshena $(at)/share/zsh/site-functions/_bukshena
-	install -d $(at)/share/doc/bukshena/examples
-	install -m 644 examples/* $(at)/share/doc/bukshena/examples
+	install -d $(at)/share/doc/bukshena/examples/certificates
+	install -m 644 $(wildcard examples/*.*) $(at)/share/doc/bukshena/examples
+	install -m 644 $(wildcard examples/certificates/*.*) $(at)/share/doc/bukshena/examples/certificates
 
 uninstall:
 	rm -f $(at)/bin/bukshena $(at)/share/man/man1/bukshena.1 $(at)/share/man/man5/bukshena-language.5

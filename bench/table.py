@@ -21,6 +21,7 @@ LINES = TOP / "crates/bench_parse/out/bench_parse"
 PROGRAM = TOP / "crates/geo_app/out/geo_app"
 ROUNDS = int(sys.argv[1]) if len(sys.argv) > 1 else 7
 POINTS = {"S1": 40 * 91_125, "S2": 8 * 455_625}
+CERTIFICATES = {"S1": ("desargues", 91_125), "S2": ("pappus", 455_625)}
 POSED = 20_000
 SEARCHES = 8
 WORKERS = (1, 2, 4, 16)
@@ -146,6 +147,10 @@ def add_all(jobs, folder):
                 command = [folder / f"figures{bits}", figure, variant]
                 jobs.add(f"{figure} {variant} {bits}", command + [points])
                 jobs.add(f"{figure} {variant} {bits} none", command + [0])
+    for figure, (name, _) in CERTIFICATES.items():
+        text = (TOP / f"examples/certificates/{name}.json").read_text()
+        jobs.add(f"{figure} check", [PROGRAM, "check"], text)
+        jobs.add(f"{figure} check none", [PROGRAM, "check"])
     for workers in WORKERS:
         jobs.add(f"search {workers}", [GRIDS], f"S2 workers {workers}\n" * SEARCHES)
     jobs.add("search none", [GRIDS], "S2 pose 1\n" * SEARCHES)
@@ -185,6 +190,9 @@ def print_points(jobs, figure):
     if figure == "S1":
         point("a point of S1 with its centre at 1000 1000 1000", "S1-far grid")
     point(f"a point of {figure}, outside of the lane", f"{figure} wide")
+    checked = jobs.each(f"{figure} check", CERTIFICATES[figure][1])
+    wide = jobs.each(f"{figure} wide", points)
+    row(f"a point of {figure}, by the checker of its certificate, to one outside of the lane", f"{checked:.1f} ns", f"{checked / wide:.2f}")
     for variant in ("changed", "everything"):
         for bits in ("128", "64"):
             what = "what changed" if variant == "changed" else "everything"

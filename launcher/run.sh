@@ -4,7 +4,7 @@
 # what a status says
 meaning() {
   case $1 in
-    1) echo 'a line was refused: its reply says why' ;;
+    1) echo 'a line was refused or invalid: its reply says why' ;;
     2) echo 'these words are none that the program knows; bukshena --help lists them' ;;
     3) echo 'the input could not be read to its end' ;;
     4) echo 'the output could not be written' ;;
@@ -31,9 +31,9 @@ case $#:${1-} in
     cat "$help"
     exit
     ;;
-  2:run)
+  2:run | 2:check | 2:batch)
     # a file that exists is read in the place of standard input
-    if [ -f "$2" ]; then carry_out run <"$2"; fi
+    if [ -f "$2" ]; then carry_out "$1" <"$2"; fi
     ;;
 esac
 carry_out "$@"

@@ -5,8 +5,8 @@ endif
 
 syntax match bukshenaComment "^\s*#.*$"
 syntax match bukshenaDrawing "^\s*\(point\|line\|fixpoint\|fixline\|on\|through\|along\|pencil\|join\|meet\)\>"
-syntax match bukshenaCommand "^\s*\(drag\|drop\|dual\|undo\|redo\|screen\|conjectures\|ledger\)\>"
-syntax match bukshenaAsking "^\s*claim\s\+\(null\|same\|on\|collinear\|concurrent\)\>"
+syntax match bukshenaCommand "^\s*\(drag\|drop\|dual\|undo\|redo\|screen\|conjectures\|ledger\|tool\|use\|end\)\>"
+syntax match bukshenaAsking "^\s*\(claim\|certify\)\s\+\(null\|same\|on\|collinear\|concurrent\)\>"
 syntax match bukshenaRule "^\s*infer\s\+\(span\|extend\|lie\|unique\|move\)\>"
 syntax match bukshenaNumber "\s\zs-\?\d\{1,4}\ze\(\s\|$\)"
 

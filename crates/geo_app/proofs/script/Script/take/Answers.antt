@@ -1,9 +1,0 @@
-use Rattle.std.proofs.Common.{◌≡◌}
-use Rattle.geo_app.proofs.ScriptCourses.{line_taken, line_cut}
-use Rattle.geo_app.proofs.script.Script.take.Goals as goal
-
-pub returns-in-Err-clause-front : goal.returns-in-Err-clause-front
-returns-in-Err-clause-front g c = λ course lines goes. line_cut c.args.self.now.session c.args.self.now.refused c.args.line.now (g.K.Sink.held c.args.sink.now) (g.K.Sink.held c.take_line.new.sink) c.in-Err.ensures.front course lines goes
-
-pub returns-clause-taken : goal.returns-clause-taken
-returns-clause-taken g c = λ course goes. line_taken c.args.self.now.session c.take_line.new.session c.args.self.now.refused c.or_refused-self.result c.in-Ok.reply c.args.line.now (g.K.Sink.held c.args.sink.now) (g.K.Sink.held c.take_line.new.sink) c.in-Ok.ensures.taken c.or_refused-self.ensures course goes
