@@ -3,8 +3,6 @@
 #![tactic(auto)]
 
 mod batch;
-#[cfg(test)]
-mod batches;
 mod batching;
 mod carrying;
 mod checks;
@@ -13,8 +11,6 @@ mod failing;
 #[cfg(test)]
 mod gates;
 mod generated;
-#[cfg(test)]
-mod hostile;
 #[cfg(test)]
 mod ledgers;
 mod long_jobs;
@@ -27,8 +23,6 @@ mod rows;
 #[cfg(test)]
 mod steps;
 mod task;
-#[cfg(test)]
-mod tools;
 #[cfg(test)]
 mod words;
 mod work;
