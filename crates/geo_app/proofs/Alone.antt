@@ -1,8 +1,9 @@
 -- A script that is carried out on its own, as far as some line.
-use Rattle.std.proofs.Common.{◌≡◌, ◌∙◌, sym, ap, refl, ℕ, suc, ◌+◌, ◌<◌, ◌≤◌, ◌++◌, Bool, false, ◌||◌, List, [], ◌∷◌, length, drop, get_or, append-nil, append_assoc}
+use Rattle.std.proofs.Common.{◌≡◌, ◌∙◌, sym, ap, refl, ℕ, suc, ◌+◌, ◌<◌, ◌≤◌, ◌++◌, Bool, false, ◌||◌, Option, List, [], ◌∷◌, length, drop, get_or, append-nil, append_assoc}
 use Rattle.std.proofs.Math.ListN.{drop_of_length-le}
 use Rattle.std.proofs.Math.Numerals.{add-one}
 use Rattle.std.proofs.Math.Seq.{drop-cons}
+use Rattle.geo_view.specs.Sights.{Sight}
 use Rattle.geo_session.specs.Printed.{text_of}
 use Rattle.geo_session.specs.Standing.{StandsFor}
 use Rattle.geo_script.specs.declared.script.Script.{Script}
@@ -19,20 +20,20 @@ pub none_left : {X : Type 0} (xs : List X) (i : ℕ) → length xs ≤ i → dro
 none_left xs i past = drop_of_length-le xs past
 
 -- of all the lines these are left
-pub record Alone (script : Script) (refused : Bool) (left all : List (List ℕ)) (before held : List ℕ) : Type 0 where
+pub record Alone {W : Type 0} (shows : W → List (Option Sight)) (script : Script W) (refused : Bool) (left all : List (List ℕ)) (before held : List ℕ) : Type 0 where
   pub place : Place
-  pub stands : StandsAt script place
-  pub written : held ++ text_of (printed_at place left) ≡ before ++ text_of (printed_at beginning all)
-  pub refuses : (refused || refuses_at place left) ≡ refuses_at beginning all
+  pub stands : StandsAt shows script place
+  pub written : held ++ text_of (printed_at place left) ≡ before ++ text_of (printed_at (beginning []) all)
+  pub refuses : (refused || refuses_at place left) ≡ refuses_at (beginning []) all
 
-pub alone_begun : (script : Script) (all : List (List ℕ)) (before : List ℕ) → StandsAt script beginning → Alone script false all all before before
-alone_begun script all before stands = record { place = beginning; stands = stands; written = refl; refuses = refl }
+pub alone_begun : {W : Type 0} (shows : W → List (Option Sight)) (script : Script W) (all : List (List ℕ)) (before : List ℕ) → StandsAt shows script (beginning []) → Alone shows script false all all before before
+alone_begun shows script all before stands = record { place = beginning []; stands = stands; written = refl; refuses = refl }
 
 -- one line more
-pub alone_next : (script script' : Script) (refused more refused' : Bool) (line : List ℕ) (lines left all : List (List ℕ)) (before held held' : List ℕ) → Alone script refused lines all before held → lines ≡ line ∷ left
-    → ((place : Place) → StandsAt script place → AreCarriedOut place.state (given_at place line) more held held' (StandsFor script'.session)) → ((place : Place) → StandsAt script place → StandsAt script' (place_after place line)) → refused' ≡ (refused || more)
-    → Alone script' refused' left all before held'
-alone_next script script' refused more refused' line lines left all before held held' a first carried stands either =
+pub alone_next : {W : Type 0} (shows : W → List (Option Sight)) (script script' : Script W) (refused more refused' : Bool) (line : List ℕ) (lines left all : List (List ℕ)) (before held held' : List ℕ) → Alone shows script refused lines all before held → lines ≡ line ∷ left
+    → ((place : Place) → StandsAt shows script place → AreCarriedOut place.state (given_at place line) more held held' (StandsFor shows script'.session)) → ((place : Place) → StandsAt shows script place → StandsAt shows script' (place_after place line)) → refused' ≡ (refused || more)
+    → Alone shows script' refused' left all before held'
+alone_next shows script script' refused more refused' line lines left all before held held' a first carried stands either =
     let place = a.place in
     let done = carried place a.stands in
     let next = place_after place line in
@@ -44,8 +45,8 @@ alone_next script script' refused more refused' line lines left all before held 
           ∙ ap (λ b. refused || b) (sym (refuses_next place line left)) ∙ ap (λ l. refused || refuses_at place l) (sym first) ∙ a.refuses;
     }
 
-pub alone_over : (script : Script) (refused : Bool) (all : List (List ℕ)) (before held : List ℕ) → Alone script refused [] all before held → (held ≡ before ++ text_of (printed_at beginning all)) × (refused ≡ refuses_at beginning all)
-alone_over script refused all before held a = (
+pub alone_over : {W : Type 0} (shows : W → List (Option Sight)) (script : Script W) (refused : Bool) (all : List (List ℕ)) (before held : List ℕ) → Alone shows script refused [] all before held → (held ≡ before ++ text_of (printed_at (beginning []) all)) × (refused ≡ refuses_at (beginning []) all)
+alone_over shows script refused all before held a = (
   sym (append-nil held) ∙ ap (λ l. held ++ l) (sym (no_reply a.place)) ∙ a.written,
   sym (or_false refused) ∙ ap (λ b. refused || b) (sym (none_refused a.place)) ∙ a.refuses,
 )

@@ -1,5 +1,5 @@
 -- What a batch makes of the lines to come, line by line, and what that is for the whole program.
-use Rattle.std.proofs.Common.{◌≡◌, ◌∙◌, sym, ap, subst, refl, ℕ, ◌+◌, ◌^◌, ◌<◌, ◌≤◌, ◌++◌, Bool, true, false, ◌||◌, not, Option, List, [], ◌∷◌, length, take, map, append-nil, append_assoc, if◌then◌else◌, arith}
+use Rattle.std.proofs.Common.{◌≡◌, ◌∙◌, sym, ap, subst, refl, ℕ, ◌+◌, ◌<◌, ◌++◌, Bool, true, false, ◌||◌, not, Option, List, [], ◌∷◌, length, take, map, append-nil, append_assoc, if◌then◌else◌, arith}
 use Rattle.std.specs.Prelude.{◌==◌}
 use Rattle.std.specs.List.{All, list_any}
 use Rattle.std.specs.Io.KnownBytes.{Appends}
@@ -16,6 +16,7 @@ use Rattle.geo_app.specs.declared.task.Task.TheVariants.{Batch}
 use Rattle.geo_app.specs.Batches.{JobLines, batch_meanwhile, batch_printed, batch_refuses, ended_jobs, ends_job, jobs_of, jobs_printed, refuses_in, whole_rounds}
 use Rattle.geo_app.specs.Courses.{Course, IsCarriedOut, Takes}
 use Rattle.geo_app.specs.Gatherings.{Gathering, GathersSo, IsGathered, batch_course, nothing_gathered}
+use Rattle.geo_view.specs.declared.shown.ViewKind.{ViewKind}
 use Rattle.geo_app.specs.Outcomes.{Headline}
 use Rattle.geo_app.specs.Output.{printed}
 use Rattle.geo_app.specs.Sheets.{Sheet, done_sheet, has_line, sheet_of, sheets_from, sheets_text, some_refused, with_line}
@@ -209,11 +210,11 @@ rest_cut n waiting round begun refused held held' is front course (g, at, same) 
 
 -- ---- the whole batch
 -- what was carried out of a batch, whose lines were cut, is what its jobs make
-pub batch_carried : (workers : ℕ) (outcome : Outcome) (taken : List ℕ) (left before after : Option (List ℕ)) → IsCarriedOut (batch_course workers nothing_gathered false) 65537 outcome taken left before after
+pub batch_carried : (kinds : List ViewKind) (workers : ℕ) (outcome : Outcome) (taken : List ℕ) (left before after : Option (List ℕ)) → IsCarriedOut (batch_course workers nothing_gathered false) 65537 outcome taken left before after
     → ((lines : List (List ℕ)) → batch_printed (map (take 65537) lines) ≡ batch_printed lines) → ((lines : List (List ℕ)) → batch_refuses (map (take 65537) lines) ≡ batch_refuses lines)
-    → ((n : ℕ) (lines : List (List ℕ)) → batch_meanwhile n (map (take 65537) lines) ≡ batch_meanwhile n lines) → AreTrue (printed Batch taken)
-    → Headline Batch workers outcome taken left before after
-batch_carried workers outcome taken left before after carried alike refused_alike meanwhile_alike true_verdicts =
+    → ((n : ℕ) (lines : List (List ℕ)) → batch_meanwhile n (map (take 65537) lines) ≡ batch_meanwhile n lines) → AreTrue (printed kinds Batch taken)
+    → Headline kinds Batch workers outcome taken left before after
+batch_carried kinds workers outcome taken left before after carried alike refused_alike meanwhile_alike true_verdicts =
     let text = ap text_of (alike (lines_of taken)) in
     let whole = ap text_of (meanwhile_alike workers (whole_lines_of taken)) in
     let refused = refused_alike (lines_of taken) in record {

@@ -1,5 +1,5 @@
 -- The jobs among lines, by the first line that ends one.
-use Rattle.std.proofs.Common.{◌≡◌, ◌∙◌, sym, ap, subst, refl, ℕ, zero, ◌+◌, ◌-◌, ◌*◌, ◌/◌, ◌<◌, ◌++◌, Bool, true, false, List, [], ◌∷◌, length, take, append-nil, append_assoc, if◌then◌else◌, arith}
+use Rattle.std.proofs.Common.{◌≡◌, ◌∙◌, sym, ap, refl, ℕ, ◌+◌, ◌-◌, ◌*◌, ◌/◌, ◌<◌, ◌++◌, true, false, List, [], ◌∷◌, length, take, if◌then◌else◌, arith}
 use Rattle.std.specs.Prelude.{◌==◌}
 use Rattle.std.specs.List.{All, slice_split}
 use Rattle.std.proofs.Math.Nat.{add-div_left, div-eq_of_lt, mul-suc}

@@ -1,14 +1,14 @@
 -- What is kept of jobs, and what comes of them.
-use Rattle.std.proofs.Common.{◌≡◌, ◌∙◌, sym, ap, subst, refl, inl, inr, ◌⊎◌, ℕ, ◌+◌, ◌-◌, ◌<◌, ◌≤◌, ◌++◌, Bool, true, false, ◌||◌, not, Option, None, Some, List, [], ◌∷◌, length, map, append-nil, append_assoc, if◌then◌else◌, arith}
+use Rattle.std.proofs.Common.{◌≡◌, ◌∙◌, sym, ap, refl, ℕ, ◌+◌, ◌-◌, ◌++◌, Bool, true, false, ◌||◌, not, Option, None, Some, List, [], ◌∷◌, length, map, append-nil, append_assoc, if◌then◌else◌, arith}
 use Rattle.std.specs.Prelude.{nat_le, nat_lt, is_none, ◌==◌}
 use Rattle.std.specs.List.{list_any, sum_by}
 use Rattle.std.proofs.lemmas.Bool.Decides.{nat_tests}
 use Rattle.std.proofs.lemmas.List.Sums.{sum_by-append, sum_by-cons}
 use Rattle.std.proofs.lemmas.Grind.{common_steps, flat_map-append}
-use Rattle.geo_session.specs.Printed.{Piece, Text, bytes_of, text_of}
+use Rattle.geo_session.specs.Printed.{Text, bytes_of, text_of}
 use Rattle.geo_script.specs.Places.{beginning, printed_at, refuses_at}
 use Rattle.geo_app.specs.Batches.{JobLines, is_large, job_line, job_size, jobs_printed, refused_job, refuses_in, replies_to}
-use Rattle.geo_app.specs.Sheets.{Sheet, done_sheet, has_line, sheet_of, sheet_refuses, sheet_text, sheets_from, sheets_text, some_refused, with_line, with_line_in}
+use Rattle.geo_app.specs.Sheets.{done_sheet, has_line, sheet_of, sheet_refuses, sheet_text, sheets_from, sheets_text, some_refused, with_line, with_line_in}
 
 -- ---- one job
 abbrev lines_by : Bool → JobLines → JobLines
@@ -65,14 +65,14 @@ has_line_is number (line ∷ job) = by (is_large (line ∷ job))
 pub text_is : (number : ℕ) (job : JobLines) → (done_sheet (sheet_of number job)).text ≡ text_of (Text (job_line number) ∷ replies_to job)
 text_is number job = by (is_large job)
   where
-    by : (large : Bool) → sheet_text number (lines_by large job) (room_by large (job_size job)) ≡ text_of (Text (job_line number) ∷ (if large then Text refused_job ∷ [] else printed_at beginning job))
+    by : (large : Bool) → sheet_text number (lines_by large job) (room_by large (job_size job)) ≡ text_of (Text (job_line number) ∷ (if large then Text refused_job ∷ [] else printed_at (beginning []) job))
     by true = ap (λ l. job_line number ++ l) (sym (append-nil refused_job))
     by false = refl
 
 pub refused_is : (number : ℕ) (job : JobLines) → (done_sheet (sheet_of number job)).refused ≡ refuses_in job
 refused_is number job = by (is_large job)
   where
-    by : (large : Bool) → sheet_refuses (lines_by large job) (room_by large (job_size job)) ≡ (large || refuses_at beginning job)
+    by : (large : Bool) → sheet_refuses (lines_by large job) (room_by large (job_size job)) ≡ (large || refuses_at (beginning []) job)
     by true = refl
     by false = refl
 

@@ -1,5 +1,5 @@
 -- How the carrying out of lines ends.
-use Rattle.std.proofs.Common.{◌≡◌, ◌∙◌, sym, ap, subst, refl, inl, inr, ◌⊎◌, ℕ, ◌^◌, ◌<◌, ◌≤◌, ◌++◌, Bool, true, false, Option, List, [], ◌∷◌, length, take, map, append-nil, arith}
+use Rattle.std.proofs.Common.{◌≡◌, ◌∙◌, sym, subst, refl, inl, inr, ℕ, ◌^◌, ◌<◌, ◌≤◌, Bool, true, false, Option, List, [], ◌∷◌, length, take, map, arith}
 use Rattle.std.specs.Prelude.{◌↔◌, Result, Ok, Err, MatchResult, MatchBool, IfOk, OnErr}
 use Rattle.std.specs.Io.KnownBytes.{Appends, Consumes, IsAtEnd}
 use Rattle.std.proofs.KnownBytes.{Appends-nil, Consumes-nil}

@@ -1,20 +1,19 @@
 -- What is made of the lines to come, each of which may be a certificate, and what that is for the whole program.
-use Rattle.std.proofs.Common.{◌≡◌, ◌∙◌, sym, ap, subst, refl, inl, inr, ◌⊎◌, arith, ℕ, ◌^◌, ◌≤◌, ◌++◌, length, Bool, true, false, ◌||◌, Option, None, Some, List, [], ◌∷◌, take, map, append_assoc, append-nil}
-use Rattle.std.specs.Io.KnownBytes.{Appends, Consumes}
+use Rattle.std.proofs.Common.{◌≡◌, ◌∙◌, sym, ap, subst, refl, ℕ, ◌++◌, Bool, false, ◌||◌, Option, List, [], ◌∷◌, take, map, append_assoc, append-nil}
+use Rattle.std.specs.Io.KnownBytes.{Appends}
 use Rattle.std.proofs.KnownBytes.{Appends-nil}
 use Rattle.std.proofs.lemmas.Grind.{flat_map-append}
-use Rattle.std.proofs.lemmas.List.{length-append}
 use Rattle.std.proofs.lemmas.List.Folds.{list_any-append}
 use Rattle.geo_checker.specs.Answers.{Answered, answer_text, answered, answers_to, has_invalid, is_invalid, text_of}
 use Rattle.geo_checker.specs.Truth.{AreRight}
 use Rattle.geo_io.specs.Lines.{lines_of, whole_lines_of}
 use Rattle.geo_io.specs.Pieces.{AppendsFront}
+use Rattle.geo_view.specs.declared.shown.ViewKind.{ViewKind}
 use Rattle.geo_app.specs.Checking.{check_course}
 use Rattle.geo_app.specs.Courses.{Course, Takes, IsCarriedOut}
 use Rattle.geo_app.specs.declared.program.Outcome.{Outcome}
-use Rattle.geo_app.specs.declared.program.Outcome.TheVariants.{NoMemory, ReadFault, WriteFault}
 use Rattle.geo_app.specs.declared.task.Task.TheVariants.{Check}
-use Rattle.geo_app.specs.Outcomes.{Headline, IsAnswered, IsStopped}
+use Rattle.geo_app.specs.Outcomes.{Headline}
 use Rattle.geo_app.proofs.PlaceTexts.{or_assoc, or_false}
 
 text_first : (line : List ℕ) (lines : List (List ℕ)) → text_of (answered (line ∷ lines)) ≡ text_of (answers_to line) ++ text_of (answered lines)
@@ -55,10 +54,10 @@ pub over : (invalid : Bool) (held : Option (List ℕ)) (course : Course) → cou
 over invalid held course goes = (subst (λ (l : List ℕ). Appends held held l) (sym (ap (λ (c : Course). c.text []) goes)) (Appends-nil held), sym (or_false invalid) ∙ sym (ap (λ (c : Course). c.refuses []) goes))
 
 -- what was made of lines that were cut is what the lines make
-pub certificates_checked : (workers : ℕ) (outcome : Outcome) (taken : List ℕ) (left before after : Option (List ℕ)) → IsCarriedOut (check_course false) 65537 outcome taken left before after
+pub certificates_checked : (kinds : List ViewKind) (workers : ℕ) (outcome : Outcome) (taken : List ℕ) (left before after : Option (List ℕ)) → IsCarriedOut (check_course false) 65537 outcome taken left before after
     → ((lines : List (List ℕ)) → text_of (answered (map (take 65537) lines)) ≡ text_of (answered lines)) → ((lines : List (List ℕ)) → has_invalid (answered (map (take 65537) lines)) ≡ has_invalid (answered lines)) → AreRight (answered (lines_of taken))
-    → Headline Check workers outcome taken left before after
-certificates_checked workers outcome taken left before after carried alike invalid_alike right =
+    → Headline kinds Check workers outcome taken left before after
+certificates_checked kinds workers outcome taken left before after carried alike invalid_alike right =
     let text = alike (lines_of taken) ∙ sym (append-nil (text_of (answered (lines_of taken)))) in
     let whole = alike (whole_lines_of taken) in
     let invalid = invalid_alike (lines_of taken) in record {
@@ -71,25 +70,3 @@ certificates_checked workers outcome taken left before after carried alike inval
       true_verdicts = (tt, tt);
       right_answers = right;
     }
-
--- no more is taken than there is
-taken_few : (bytes taken : List ℕ) (left after : Option (List ℕ)) → left ≡ Some bytes → Consumes left after taken → length taken ≤ length bytes
-taken_few bytes taken None after is consumes = absurd (cc)
-taken_few bytes taken (Some xs) None is consumes = absurd consumes
-taken_few bytes taken (Some xs) (Some ys) is consumes =
-    let same : xs ≡ bytes = cc in
-    let all : length bytes ≡ length (taken ++ ys) = ap length (sym same ∙ consumes) in
-    let parts = length-append taken ys in
-    omega (arith, all, parts)
-
--- without a fault the certificates are checked to their end, or memory was wanting
-pub finished : (workers : ℕ) (outcome : Outcome) (bytes taken : List ℕ) (left after before held : Option (List ℕ)) → IsAnswered outcome ⊎ IsStopped outcome → left ≡ Some bytes → Consumes left after taken → Headline Check workers outcome taken after before held → length bytes ≤ 2 ^ 24
-    → (outcome ≡ ReadFault → ⊥) → (outcome ≡ WriteFault → ⊥) → IsAnswered outcome ⊎ (outcome ≡ NoMemory)
-finished workers outcome bytes taken left after before held (inl answered) is consumes told few no_read no_write = inl answered
-finished workers outcome bytes taken left after before held (inr (inl read)) is consumes told few no_read no_write = absurd (no_read read)
-finished workers outcome bytes taken left after before held (inr (inr (inl write))) is consumes told few no_read no_write = absurd (no_write write)
-finished workers outcome bytes taken left after before held (inr (inr (inr (inl long)))) is consumes told few no_read no_write =
-    let more = told.too_long.0 long in
-    let shorter = taken_few bytes taken left after is consumes in
-    absurd (omega (arith, more, shorter, few))
-finished workers outcome bytes taken left after before held (inr (inr (inr (inr none)))) is consumes told few no_read no_write = inr none

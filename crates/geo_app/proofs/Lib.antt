@@ -2,8 +2,10 @@ mod Alone
 mod BatchCourses
 mod BatchCuts
 mod BatchSheets
+mod BoxedViews
 mod Carried
 mod CertificateCourses
+mod Endings
 mod LongJobs
 mod LongLines
 mod Numerals

@@ -1,16 +1,15 @@
 -- Of a job's lines no more than 65,537 bytes are needed, and every verdict of a batch is true.
 use Rattle.std.proofs.Common.{◌≡◌, ◌∙◌, sym, ap, ap₂, refl, inl, inr, ◌⊎◌, ℕ, ◌+◌, ◌-◌, ◌*◌, ◌/◌, ◌<◌, ◌≤◌, ◌++◌, Bool, true, false, cond, ◌||◌, List, [], ◌∷◌, length, take, map, if◌then◌else◌, arith}
-use Rattle.std.specs.Prelude.{nat_lt, ◌==◌, codes}
-use Rattle.std.specs.List.{AllByRecursion, list_any, onto_first, slice_split, sum_by}
-use Rattle.std.specs.Str.{bytes_eq}
+use Rattle.std.specs.Prelude.{nat_lt, ◌==◌}
+use Rattle.std.specs.List.{list_any, onto_first, slice_split}
 use Rattle.std.proofs.lemmas.Bool.Decides.{nat_tests}
 use Rattle.std.proofs.lemmas.Grind.{common_steps}
 use Rattle.std.proofs.lemmas.List.Sums.{sum_by-cons}
 use Rattle.std.proofs.lemmas.List.{length-map, length-take, take_all, take-map}
 use Rattle.geo_session.specs.Answers.{start, printed_from}
-use Rattle.geo_session.specs.Printed.{AreTrue, IsTruePiece, Piece, Text}
+use Rattle.geo_session.specs.Printed.{AreTrue, Piece, Text}
 use Rattle.geo_tool.specs.Expansion.{expansion_of}
-use Rattle.geo_script.specs.Places.{beginning, printed_at, refuses_at}
+use Rattle.geo_script.specs.Places.{beginning, printed_at}
 use Rattle.geo_app.specs.Batches.{JobLines, batch_meanwhile, batch_printed, batch_refuses, ended_jobs, ends_job, is_large, job_line, job_size, jobs_of, jobs_of_parts, jobs_printed, refused_job, refuses_in, replies_to, whole_rounds}
 
 abbrev cut : List ℕ → List ℕ
@@ -134,10 +133,10 @@ both_true : (front back : List Piece) → AreTrue front → AreTrue back → Are
 both_true [] back f b = b
 both_true (piece ∷ front) back f b = (f.0, both_true front back f.1 b)
 
-pub jobs_true : ((lines : List (List ℕ)) → AreTrue (printed_from start lines)) → (number : ℕ) (jobs : List JobLines) → AreTrue (jobs_printed number jobs)
+pub jobs_true : ((lines : List (List ℕ)) → AreTrue (printed_from (start []) lines)) → (number : ℕ) (jobs : List JobLines) → AreTrue (jobs_printed number jobs)
 jobs_true all number [] = tt
 jobs_true all number (job ∷ jobs) = both_true (Text (job_line number) ∷ replies_to job) (jobs_printed (number + 1) jobs) (tt, by (is_large job)) (jobs_true all (number + 1) jobs)
   where
-    by : (large : Bool) → AreTrue (if large then Text refused_job ∷ [] else printed_at beginning job)
+    by : (large : Bool) → AreTrue (if large then Text refused_job ∷ [] else printed_at (beginning []) job)
     by true = (tt, tt)
     by false = all (expansion_of job)

@@ -1,11 +1,12 @@
 -- A line that is too long reads as its first 201 bytes do.
-use Rattle.std.proofs.Common.{◌≡◌, ◌∙◌, sym, ap, ap₂, inl, inr, refl, ℕ, ◌+◌, ◌<◌, ◌≤◌, nat_lt, true, List, [], ◌∷◌, ◌++◌, length, take, map, Some, Err, ◌||◌, arith}
+use Rattle.std.proofs.Common.{◌≡◌, ◌∙◌, sym, ap, inl, inr, refl, ℕ, ◌+◌, ◌<◌, ◌≤◌, nat_lt, true, List, [], ◌∷◌, ◌++◌, length, take, map, Some, Err, ◌||◌, arith}
 use Rattle.std.proofs.lemmas.Bool.{cases_lt}
 use Rattle.std.proofs.lemmas.Grind.{common_steps}
 use Rattle.geo_sketch.specs.declared.changes.Refusal.TheVariants.{Long}
 use Rattle.geo_parse.specs.Refusals.{applies, refusal_of}
 use Rattle.geo_parse.specs.Reading.{read_by, command_of, read_of}
 use Rattle.geo_parse.specs.Words.{words}
+use Rattle.geo_view.specs.declared.shown.ViewKind.{ViewKind}
 use Rattle.geo_session.specs.Answers.{State, start, answer_by, counted, answer_of, refused, is_refused, printed_from, has_refusal}
 use Rattle.geo_tool.specs.Expansion.{expansion_of}
 use Rattle.geo_script.specs.Places.{beginning, printed_at, refuses_at}
@@ -61,8 +62,8 @@ refused_alike state (line ∷ lines) = ap (λ a. is_refused a.reply || has_refus
 abbrev ExpandAlike : Type 0
 ExpandAlike = (lines : List (List ℕ)) → map (take 201) (expansion_of (map (take 201) lines)) ≡ map (take 201) (expansion_of lines)
 
-pub all_printed_alike : ExpandAlike → (lines : List (List ℕ)) → printed_at beginning (map (take 201) lines) ≡ printed_at beginning lines
-all_printed_alike alike lines = sym (printed_alike start (expansion_of (map (take 201) lines))) ∙ ap (printed_from start) (alike lines) ∙ printed_alike start (expansion_of lines)
+pub all_printed_alike : ExpandAlike → (kinds : List ViewKind) (lines : List (List ℕ)) → printed_at (beginning kinds) (map (take 201) lines) ≡ printed_at (beginning kinds) lines
+all_printed_alike alike kinds lines = sym (printed_alike (start kinds) (expansion_of (map (take 201) lines))) ∙ ap (printed_from (start kinds)) (alike lines) ∙ printed_alike (start kinds) (expansion_of lines)
 
-pub all_refused_alike : ExpandAlike → (lines : List (List ℕ)) → refuses_at beginning (map (take 201) lines) ≡ refuses_at beginning lines
-all_refused_alike alike lines = sym (refused_alike start (expansion_of (map (take 201) lines))) ∙ ap (has_refusal start) (alike lines) ∙ refused_alike start (expansion_of lines)
+pub all_refused_alike : ExpandAlike → (kinds : List ViewKind) (lines : List (List ℕ)) → refuses_at (beginning kinds) (map (take 201) lines) ≡ refuses_at (beginning kinds) lines
+all_refused_alike alike kinds lines = sym (refused_alike (start kinds) (expansion_of (map (take 201) lines))) ∙ ap (has_refusal (start kinds)) (alike lines) ∙ refused_alike (start kinds) (expansion_of lines)

@@ -1,10 +1,10 @@
 -- Lines that were carried out, as far as some line.
-use Rattle.std.proofs.Common.{◌≡◌, ◌∙◌, sym, ap, subst, refl, inl, inr, ◌⊎◌, ℕ, ◌+◌, ◌^◌, ◌<◌, ◌≤◌, ◌↔◌, ◌++◌, Bool, true, false, Option, List, [], ◌∷◌, length, take, map, append_assoc, arith}
-use Rattle.std.specs.Io.KnownBytes.{Appends, Consumes, IsAtEnd}
+use Rattle.std.proofs.Common.{◌≡◌, ◌∙◌, sym, ap, subst, refl, inl, inr, ◌⊎◌, ℕ, ◌+◌, ◌++◌, Bool, true, false, Option, List, [], ◌∷◌, length, take, map, append_assoc, arith}
+use Rattle.std.specs.Io.KnownBytes.{Appends, Consumes}
 use Rattle.std.proofs.KnownBytes.{Appends-nil, Appends-trans, Consumes-nil, Consumes-trans}
 use Rattle.std.proofs.lemmas.List.{append-nil}
 use Rattle.std.proofs.lemmas.Grind.{common_steps}
-use Rattle.geo_io.specs.Lines.{cut_lines_of, whole_lines_of, has_line_feed}
+use Rattle.geo_io.specs.Lines.{cut_lines_of, whole_lines_of}
 use Rattle.geo_io.specs.Pieces.{AppendsFront}
 use Rattle.geo_io.specs.Taking.{Taking, first_taking, lines_left, CanFollow, IsRightOnEnd, IsAskedFor, GivesLine, GivesNone, StopsBetween}
 use Rattle.geo_io.specs.Taking as taking

@@ -1,11 +1,12 @@
 -- A generated script that was counted as far as some line.
-use Rattle.std.proofs.Common.{◌≡◌, ◌∙◌, sym, ap, refl, ℕ, ◌+◌, ◌≤◌, ◌<◌, ◌++◌, Bool, true, false, cond, Option, List, [], ◌∷◌, length, flat_map, append_assoc, arith}
+use Rattle.std.proofs.Common.{◌≡◌, ◌∙◌, sym, ap, refl, ℕ, ◌+◌, ◌≤◌, ◌<◌, ◌++◌, Bool, true, false, cond, Option, List, [], ◌∷◌, length, append_assoc, arith}
 use Rattle.std.specs.Prelude.{codes}
 use Rattle.std.specs.List.{count_by}
 use Rattle.std.proofs.lemmas.List.{append-nil}
 use Rattle.std.proofs.lemmas.List.Sums.{sum_by-cons}
 use Rattle.geo_io.specs.Lines.{lines_of}
 use Rattle.geo_io.specs.Pieces.{AppendsFront}
+use Rattle.geo_view.specs.Sights.{Sight}
 use Rattle.geo_session.specs.declared.state.Session.{Session}
 use Rattle.geo_session.specs.Answers.{State, start, answer_of}
 use Rattle.geo_session.specs.Printed.{Text, text_of}
@@ -28,10 +29,10 @@ pub record Counted (all left : List Answered) (counts : Counts) : Type 0 where
   pub few_refused : counts.refused ≤ counts.lines
 
 -- and the session stands for the state of the first line that is left
-pub record Tallied (bytes rest : List ℕ) (counts : Counts) (session : Session) : Type 0 where
+pub record Tallied {W : Type 0} (shows : W → List (Option Sight)) (bytes rest : List ℕ) (counts : Counts) (session : Session W) : Type 0 where
   pub state : State
-  pub stands : StandsFor session state
-  pub counted : Counted (answered_to start bytes) (answered_to state rest) counts
+  pub stands : StandsFor shows session state
+  pub counted : Counted (answered_to (start []) bytes) (answered_to state rest) counts
   pub room : counts.lines + length rest ≤ length bytes
 
 -- a line counted is one less that is left
@@ -46,8 +47,8 @@ more_if_most : (b : Bool) (count after lines : ℕ) → after ≡ one_more_if b 
 more_if_most true count after lines e few = omega (arith, e, few)
 more_if_most false count after lines e few = omega (arith, e, few)
 
-pub one_counted : (all left : List Answered) (state : State) (line : List ℕ) (before after : Counts) (session : Session) → Counted all (answered state line ∷ left) before → IsCounted state line before after session → Counted all left after
-one_counted all left state line before after session c i =
+pub one_counted : {W : Type 0} (shows : W → List (Option Sight)) (all left : List Answered) (state : State) (line : List ℕ) (before after : Counts) (session : Session W) → Counted all (answered state line ∷ left) before → IsCounted shows state line before after session → Counted all left after
+one_counted shows all left state line before after session c i =
     let a = answered state line in record {
       lines = omega (arith, c.lines, i.lines);
       ok = more_counted is_ok a left before.ok after.ok _ i.ok c.ok;
@@ -62,11 +63,11 @@ next_left : (state : State) (rest line after : List ℕ) → lines_of rest ≡ l
 unfolding answered_from
 next_left state rest line after cut = ap (answered_from state) cut
 
-pub line_tallied : (bytes rest line after : List ℕ) (before counts : Counts) (session next : Session) → (t : Tallied bytes rest before session) → lines_of rest ≡ line ∷ lines_of after → length after < length rest → IsCounted t.state line before counts next → Tallied bytes after counts next
-line_tallied bytes rest line after before counts session next t cut shorter i = record {
+pub line_tallied : {W : Type 0} (shows : W → List (Option Sight)) (bytes rest line after : List ℕ) (before counts : Counts) (session next : Session W) → (t : Tallied shows bytes rest before session) → lines_of rest ≡ line ∷ lines_of after → length after < length rest → IsCounted shows t.state line before counts next → Tallied shows bytes after counts next
+line_tallied shows bytes rest line after before counts session next t cut shorter i = record {
   state = (answer_of t.state line).next;
   stands = i.stands;
-  counted = one_counted _ (answered_to (answer_of t.state line).next after) t.state line before counts next (rw (next_left t.state rest line after cut) at t.counted) i;
+  counted = one_counted shows _ (answered_to (answer_of t.state line).next after) t.state line before counts next (rw (next_left t.state rest line after cut) at t.counted) i;
   room = omega (arith, t.room, shorter, i.lines);
 }
 
@@ -81,9 +82,9 @@ pub record IsAllCounted (all : List Answered) (counts : Counts) : Type 0 where
   pub refused : counts.refused ≡ count_by is_bad all
   pub ledger : counts.ledger.items ≡ ledger_text all
 
-pub all_counted : (bytes rest : List ℕ) (counts : Counts) (session : Session) → Tallied bytes rest counts session → rest ≡ [] → IsAllCounted (answered_to start bytes) counts
-all_counted bytes rest counts session t none =
-    let c : Counted (answered_to start bytes) [] counts = rw (none, none_left t.state) at t.counted in record {
+pub all_counted : {W : Type 0} (shows : W → List (Option Sight)) (bytes rest : List ℕ) (counts : Counts) (session : Session W) → Tallied shows bytes rest counts session → rest ≡ [] → IsAllCounted (answered_to (start []) bytes) counts
+all_counted shows bytes rest counts session t none =
+    let c : Counted (answered_to (start []) bytes) [] counts = rw (none, none_left t.state) at t.counted in record {
       lines = omega (arith, c.lines);
       ok = omega (arith, c.ok);
       refused = omega (arith, c.refused);

@@ -49,11 +49,11 @@ job_line number = codes "job " ++ (decimal number ++ codes "\n")
 
 -- what is printed for a job: it is refused, or its replies
 abbrev pub replies_to : JobLines → List Piece
-replies_to job = if is_large job then Text refused_job ∷ [] else printed_at beginning job
+replies_to job = if is_large job then Text refused_job ∷ [] else printed_at (beginning []) job
 
 -- the job is refused, or a line of it
 abbrev pub refuses_in : JobLines → Bool
-refuses_in job = is_large job || refuses_at beginning job
+refuses_in job = is_large job || refuses_at (beginning []) job
 
 -- what is printed for jobs, by the number of the first
 abbrev pub jobs_printed : ℕ → List JobLines → List Piece

@@ -1,5 +1,5 @@
 -- A generated script, and what its answers come to.
-use Rattle.std.specs.Prelude.{ℕ, ◌++◌, Bool, true, false, ◌&&◌, ◌||◌, not, ◌==◌, if◌then◌else◌, List, [], ◌∷◌, length, flat_map, codes}
+use Rattle.std.specs.Prelude.{ℕ, Bool, true, false, ◌&&◌, ◌||◌, not, ◌==◌, if◌then◌else◌, List, [], ◌∷◌, length, flat_map, codes}
 use Rattle.std.specs.List.{count_by, starts_with}
 use Rattle.std.specs.Str.{bytes_eq}
 use Rattle.geo_gen.specs.declared.summaries.Tally.{Tally}
@@ -61,6 +61,6 @@ tally_of all = record {
   unsettled = lines_that_begin (codes "unsettled ") (ledger_text all);
 }
 
--- what is written for a seed: one line in place of the replies
+-- what is written for a seed: one line in place of the replies. There are no views
 abbrev pub generated_text : ℕ → List ℕ
-generated_text seed = summary_of seed (tally_of (answered_from start (lines_of (script_of seed))))
+generated_text seed = summary_of seed (tally_of (answered_from (start []) (lines_of (script_of seed))))

@@ -2,6 +2,7 @@
 use Rattle.std.specs.Prelude.{◌≡◌, ℕ, ◌^◌, ◌<◌, ◌⊎◌, ◌↔◌, Option, List, length}
 use Rattle.std.specs.Io.KnownBytes.{Appends, IsAtEnd}
 use Rattle.geo_io.specs.Pieces.{AppendsFront}
+use Rattle.geo_view.specs.declared.shown.ViewKind.{ViewKind}
 use Rattle.geo_session.specs.Printed.{AreTrue}
 use Rattle.geo_app.specs.declared.program.Outcome.{Outcome}
 use Rattle.geo_app.specs.declared.program.Outcome.TheVariants.{Done, SomeRefused, Usage, ReadFault, WriteFault, TooLong, NoMemory}
@@ -34,21 +35,22 @@ IsReadToEnd Check left = IsAtEnd left
 IsReadToEnd (Generate seed) left = Unit {0}
 IsReadToEnd Batch left = IsAtEnd left
 
--- the headline: what the program did with the bytes that it took. The source has `left`
--- left, and the sink held `before` and holds `after`, each where it tells. How many workers there
--- are says only what was written of a batch where the source failed
-pub record Headline (task : Task) (workers : ℕ) (outcome : Outcome) (taken : List ℕ) (left before after : Option (List ℕ)) : Type 0 where
+-- the headline: what the program did with the bytes that it took, where it was given views of
+-- these kinds. The source has `left` left, and the sink held `before` and holds `after`, each
+-- where it tells. How many workers there are says only what was written of a batch where the
+-- source failed
+pub record Headline (kinds : List ViewKind) (task : Task) (workers : ℕ) (outcome : Outcome) (taken : List ℕ) (left before after : Option (List ℕ)) : Type 0 where
   -- Done or SomeRefused: all was read, the whole output was written, and it is SomeRefused
   -- exactly where a line or a job was refused, or a certificate invalid
-  pub answered : IsAnswered outcome → IsReadToEnd task left × Appends before after (output_of task taken) × ((outcome ≡ SomeRefused) ↔ HasRefusal task taken)
+  pub answered : IsAnswered outcome → IsReadToEnd task left × Appends before after (output_of kinds task taken) × ((outcome ≡ SomeRefused) ↔ HasRefusal kinds task taken)
   -- ReadFault, WriteFault, TooLong or NoMemory: a front part of the output was written
-  pub stopped : IsStopped outcome → AppendsFront before after (output_of task taken)
-  -- ReadFault: the replies to the whole lines that were taken were written, of a batch the outputs
-  -- of its whole rounds, and nothing else
-  pub read_fault : (outcome ≡ ReadFault) → Appends before after (output_at_fault task workers taken)
+  pub stopped : IsStopped outcome → AppendsFront before after (output_of kinds task taken)
+  -- ReadFault: the replies to the whole lines that were taken were written, and nothing else; of a
+  -- batch the outputs of the whole rounds of jobs among them
+  pub read_fault : (outcome ≡ ReadFault) → Appends before after (output_at_fault kinds task workers taken)
   -- TooLong: exactly where more than 2^24 bytes were taken
   pub too_long : (outcome ≡ TooLong) ↔ (2 ^ 24 < length taken)
   -- whatever the outcome is, every verdict in the output is true
-  pub true_verdicts : AreTrue (printed task taken)
+  pub true_verdicts : AreTrue (printed kinds task taken)
   -- and every answer to a certificate is right: what a valid one says of its claim is true
   pub right_answers : AreRightAnswers task taken

@@ -1,5 +1,6 @@
 -- What a script makes of the lines to come.
-use Rattle.std.specs.Prelude.{◌≡◌, Bool, ◌||◌}
+use Rattle.std.specs.Prelude.{◌≡◌, Bool, ◌||◌, Option, List}
+use Rattle.geo_view.specs.Sights.{Sight}
 use Rattle.geo_session.specs.Printed.{text_of}
 use Rattle.geo_script.specs.Places.{Place, StandsAt, printed_at, refuses_at}
 use Rattle.geo_app.specs.Courses.{Course}
@@ -13,6 +14,7 @@ script_course place refused = record {
   refuses = λ lines. refused || refuses_at place lines;
 }
 
--- the script stands at a place, from which it goes on so
-abbrev pub Goes : Replies → Course → Type 0
-Goes replies course = (place : Place) × StandsAt replies.script place × (course ≡ script_course place replies.refused)
+-- the script stands at a place, from which it goes on so. What is seen of its views is
+-- handed in
+abbrev pub Goes : {W : Type 0} → (W → List (Option Sight)) → Replies W → Course → Type 0
+Goes shows replies course = (place : Place) × StandsAt shows replies.script place × (course ≡ script_course place replies.refused)

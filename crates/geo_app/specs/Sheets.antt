@@ -46,11 +46,11 @@ has_line sheet = is_none sheet.room || not (length sheet.lines == 0)
 -- what is written for it, by the room that it has
 abbrev pub sheet_text : ℕ → JobLines → Option ℕ → List ℕ
 sheet_text number lines None = job_line number ++ refused_job
-sheet_text number lines (Some room) = job_line number ++ text_of (printed_at beginning lines)
+sheet_text number lines (Some room) = job_line number ++ text_of (printed_at (beginning []) lines)
 
 abbrev pub sheet_refuses : JobLines → Option ℕ → Bool
 sheet_refuses lines None = true
-sheet_refuses lines (Some room) = refuses_at beginning lines
+sheet_refuses lines (Some room) = refuses_at (beginning []) lines
 
 -- once it has run
 abbrev pub done_sheet : Sheet → Sheet

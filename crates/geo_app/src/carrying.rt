@@ -12,21 +12,22 @@ use crate::program::Outcome;
 use crate::replies::Replies;
 use geo_io::{LineEnd, Lines, Sink, SinkEnd, Source};
 use geo_settle::Gate;
+use geo_view::Views;
 use std::alloc::Global;
 use std::thread::Threads;
 
 /// Takes one line of the source, has the script carry it out, and only then takes the next. Of a line that
 /// is longer than `limit` bytes only these are carried out.
-pub(crate) fn carry_out<R: Threads + Sync, S: Source, K: Sink, G: Gate + Sync>(
+pub(crate) fn carry_out<R: Threads + Sync, S: Source, K: Sink, G: Gate + Sync, W: Views>(
     rt: &R,
     alloc: Global,
     limit: usize,
-    replies: &mut Replies,
+    replies: &mut Replies<W>,
     source: &mut S,
     sink: &mut K,
     gate: &G,
 ) -> Outcome
-    ensures carried { (course : Course) → Goes replies.old course → course.meanwhile [] ≡ [] → TakesBytes (S.left source.old) (S.left source.new) (λ taken. IsCarriedOut course limit result taken (S.left source.new) (K.held sink.old) (K.held sink.new)) }
+    ensures carried { (course : Course) → Goes W.shows replies.old course → course.meanwhile [] ≡ [] → TakesBytes (S.left source.old) (S.left source.new) (λ taken. IsCarriedOut course limit result taken (S.left source.new) (K.held sink.old) (K.held sink.new)) }
     ensures ended { IsAnswered result ⊎ IsStopped result }
     ensures read_fault { result ≡ Outcome.ReadFault → Rose (S.fault_count source.old) (S.fault_count source.new) }
     ensures write_fault { result ≡ Outcome.WriteFault → Rose (K.fault_count sink.old) (K.fault_count sink.new) }

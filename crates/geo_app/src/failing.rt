@@ -1,37 +1,52 @@
 //! Sources and sinks that fail at each of their calls in turn.
 
-use crate::program::run_program;
+use crate::run_with_views;
+use crate::transcripts::{bytes_of, words_of};
 use geo_io::{MemSink, MemSource};
-use geo_settle::OpenGate;
 use std::alloc::{AllocError, Global};
 use std::thread::Threads;
 
-/// The lines of a script, each with its reply.
-const LINES: [(&[u8], &[u8]); 8] = [
-    (b"point A 0 0\n", b"ok\n"),
-    (b"point B 1 0\n", b"ok\n"),
-    (b"point C 0 1\n", b"ok\n"),
-    (b"join l A B\n", b"ok\n"),
-    (b"join m A C\n", b"ok\n"),
-    (b"meet X l m\n", b"ok\n"),
-    (
-        b"screen\n",
-        b"A point 0 0 1\nB point 1 0 1\nC point 0 1 1\nl line 0 1 0\nm line 1 0 0\nX point 0 0 1\n",
-    ),
-    (b"ledger\n", b"proved same A X\n"),
-];
+/// The lines of a script.
+const SCRIPT: &str = "\
+point A 0 0
+point B 1 0
+point C 0 1
+join l A B
+join m A C
+meet X l m
+screen
+ledger
+";
 
-/// The script, and the replies to those of its lines that end within the first `count` bytes.
-fn script_and_replies(alloc: Global, count: usize) -> Result<(Vec<u8>, Vec<u8>), AllocError> {
-    let mut script = Vec::new(alloc);
-    let mut replies = Vec::new(alloc);
-    for (line, reply) in LINES {
-        script.extend_from_slice(line)?;
-        if script.len() <= count {
-            replies.extend_from_slice(reply)?;
-        }
+/// What is written for each line, with `|` behind the last line feed.
+const REPLIES: &str = "\
+ok
+|ok
+|ok
+|ok
+|ok
+|ok
+|A point 0 0 1
+B point 1 0 1
+C point 0 1 1
+l line 0 1 0
+m line 1 0 0
+X point 0 0 1
+|proved same A X
+";
+
+/// The replies to those lines of the script that end within its first `count` bytes.
+fn replies_within(alloc: Global, count: usize) -> Result<Vec<u8>, AllocError> {
+    let front = SCRIPT.as_bytes().get(..count).unwrap_or(SCRIPT.as_bytes());
+    let lines = front
+        .iter()
+        .filter(|byte: &&u8| -> bool { **byte == b'\n' })
+        .count();
+    let mut written = Vec::new(alloc);
+    for reply in REPLIES.split('|').take(lines) {
+        written.extend_from_slice(reply.as_bytes())?;
     }
-    Ok((script, replies))
+    Ok(written)
 }
 
 /// How the script ends, and what is written, where calls fail.
@@ -40,55 +55,39 @@ fn run_failing<R: Threads + Sync>(
     alloc: Global,
     reads: Vec<u64>,
     writes: Vec<u64>,
-) -> Result<(u8, Vec<u8>), AllocError> {
-    let (script, _) = script_and_replies(alloc, 0)?;
-    let mut words = Vec::new(alloc);
-    words.push(String::from_str(alloc, "run")?)?;
-    let mut source = MemSource::new(script, reads, 8);
+) -> Result<(u8, MemSink), AllocError> {
+    let mut source = MemSource::new(bytes_of(alloc, SCRIPT)?, reads, 8);
     let mut sink = MemSink::new(alloc, writes, 7);
-    let ended = run_program(rt, alloc, &words, &mut source, &mut sink, &OpenGate);
-    let mut held = Vec::new(alloc);
-    held.extend_from_slice(sink.held())?;
-    Ok((ended.status(), held))
+    let ended = run_with_views(rt, alloc, &words_of(alloc, "run")?, &mut source, &mut sink)?;
+    Ok((ended.status(), sink))
 }
 
+/// At most the whole lines among the bytes that were read before are answered, and each of them.
 #[test]
 fn writes_the_whole_lines_at_each_failing_read(rt: HostRuntime) -> Result<(), AllocError> {
-    let (script, _) = script_and_replies(rt.alloc(), 0)?;
-    for call in 1..(script.len() as u64).div_ceil(8) + 2 {
-        let (status, held) = run_failing(
-            &rt,
-            rt.alloc(),
-            vec![in rt.alloc(); call]?,
-            Vec::new(rt.alloc()),
-        )?;
-        let (_, replies) = script_and_replies(rt.alloc(), 8 * (call as usize - 1))?;
+    let calls = SCRIPT.len().div_ceil(8) as u64 + 1;
+    for before in 0..calls {
+        let reads = vec![in rt.alloc(); before + 1]?;
+        let (status, sink) = run_failing(&rt, rt.alloc(), reads, Vec::new(rt.alloc()))?;
+        let written = replies_within(rt.alloc(), 8 * before as usize)?;
         assert_eq!(rt; status, 3);
-        assert!(rt; held.as_slice().starts_with(replies.as_slice()));
-        if 8 * (call as usize - 1) < script.len() {
-            assert_eq!(rt; held.as_slice(), replies.as_slice());
-        }
+        assert_eq!(rt; sink.held(), written.as_slice(), "{before} reads");
     }
     Ok(())
 }
 
+/// Each reply is written in pieces of 7 bytes: six times ok, 82 bytes, and 16.
 #[test]
 fn writes_a_front_part_at_each_failing_write(rt: HostRuntime) -> Result<(), AllocError> {
-    let none = Vec::new(rt.alloc());
-    let (status, whole) = run_failing(&rt, rt.alloc(), none, Vec::new(rt.alloc()))?;
-    let (_, replies) = script_and_replies(rt.alloc(), usize::MAX)?;
+    let whole = replies_within(rt.alloc(), SCRIPT.len())?;
+    let (status, sink) = run_failing(&rt, rt.alloc(), Vec::new(rt.alloc()), Vec::new(rt.alloc()))?;
     assert_eq!(rt; status, 0);
-    assert_eq!(rt; whole.as_slice(), replies.as_slice());
-    // Each reply is written in pieces of 7 bytes: six times ok, 82 bytes, and 16.
+    assert_eq!(rt; sink.held(), whole.as_slice());
     for call in 1..22u64 {
-        let (status, held) = run_failing(
-            &rt,
-            rt.alloc(),
-            Vec::new(rt.alloc()),
-            vec![in rt.alloc(); call]?,
-        )?;
+        let writes = vec![in rt.alloc(); call]?;
+        let (status, sink) = run_failing(&rt, rt.alloc(), Vec::new(rt.alloc()), writes)?;
         assert_eq!(rt; status, 4);
-        assert!(rt; whole.as_slice().starts_with(held.as_slice()));
+        assert!(rt; whole.starts_with(sink.held()), "write {call}");
     }
     Ok(())
 }

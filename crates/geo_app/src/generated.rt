@@ -1,6 +1,6 @@
 //! A generated script, carried out and counted.
 
-ghost use Rattle.std.specs.Prelude.{◌≡◌, ℕ, ◌+◌, ◌≤◌, ◌++◌, ◌==◌, ◌^◌, ◌<◌, List, codes, length, IfOk, OnOk, OnErr, IsErrOf};
+ghost use Rattle.std.specs.Prelude.{◌≡◌, ℕ, ◌+◌, ◌≤◌, ◌++◌, ◌==◌, ◌^◌, ◌<◌, List, [], codes, length, IfOk, OnOk, OnErr, IsErrOf};
 ghost use Rattle.std.specs.Io.KnownBytes.{Appends};
 ghost use Rattle.std.specs.List.{starts_with};
 ghost use Rattle.geo_io.specs.Faults.{Rose};
@@ -16,6 +16,7 @@ use geo_io::{Sink, SinkEnd, split_line, write_all};
 use geo_session::{Reply, Session};
 use geo_settle::Gate;
 use geo_sketch::NoMemory;
+use geo_view::{NoViews, Views};
 use std::alloc::Global;
 use std::thread::Threads;
 
@@ -80,9 +81,24 @@ fn count_answers<R: Threads + Sync, G: Gate + Sync>(
     gate: &G,
 ) -> Result<Tally, NoMemory>
     requires { (0 < workers) × (workers ≤ 16) }
-    ensures { IfOk result (λ tally. tally ≡ tally_of (answered_from start (lines_of bytes.now))) }
+    ensures { IfOk result (λ tally. tally ≡ tally_of (answered_from (start []) (lines_of bytes.now))) }
 {
-    let mut session = Session::new(alloc, workers)?;
+    let mut session = Session::new(alloc, NoViews, workers);
+    count_all(rt, alloc, &mut session, bytes, gate)
+}
+
+/// Carries out the lines of a script on a session with nothing done, and counts how they are
+/// answered.
+fn count_all<R: Threads + Sync, G: Gate + Sync, W: Views>(
+    rt: &R,
+    alloc: Global,
+    session: &mut Session<W>,
+    bytes: &[u8],
+    gate: &G,
+) -> Result<Tally, NoMemory>
+    requires { StandsFor W.shows session.old (start []) }
+    ensures { IfOk result (λ tally. tally ≡ tally_of (answered_from (start []) (lines_of bytes.now))) }
+{
     let mut counts = Counts {
         lines: 0,
         ok: 0,
@@ -91,7 +107,7 @@ fn count_answers<R: Threads + Sync, G: Gate + Sync>(
     };
     let mut rest = bytes;
     while let Some((line, after)) = split_line(rest) {
-        count_line(rt, alloc, &mut session, line, &mut counts, gate)?;
+        count_line(rt, alloc, session, line, &mut counts, gate)?;
         rest = after;
     }
     Ok(Tally {
@@ -105,10 +121,10 @@ fn count_answers<R: Threads + Sync, G: Gate + Sync>(
 }
 
 /// Carries out one line, and counts its answer.
-fn count_line<R: Threads + Sync, G: Gate + Sync>(
+fn count_line<R: Threads + Sync, G: Gate + Sync, W: Views>(
     rt: &R,
     alloc: Global,
-    session: &mut Session,
+    session: &mut Session<W>,
     line: &[u8],
     counts: &mut Counts,
     gate: &G,
@@ -116,7 +132,7 @@ fn count_line<R: Threads + Sync, G: Gate + Sync>(
     requires room { counts.old.lines + 1 < 2 ^ 64 }
     requires few_ok { counts.old.ok ≤ counts.old.lines }
     requires few_refused { counts.old.refused ≤ counts.old.lines }
-    ensures { OnOk result ((state : State) → StandsFor session.old state → IsCounted state line.now counts.old counts.new session.new) }
+    ensures { OnOk result ((state : State) → StandsFor W.shows session.old state → IsCounted W.shows state line.now counts.old counts.new session.new) }
 {
     let mut text = Vec::new(alloc);
     let reply = session.line(rt, alloc, line, &mut text, gate)?;

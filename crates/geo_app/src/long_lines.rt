@@ -2,6 +2,7 @@
 
 ghost use Rattle.std.specs.Prelude.{◌≡◌, ℕ, List, take, map};
 ghost use Rattle.geo_parse.specs.Reading.{read_of};
+ghost use Rattle.geo_view.specs.declared.shown.ViewKind.{ViewKind};
 ghost use Rattle.geo_script.specs.Places.{beginning, printed_at, refuses_at};
 
 use geo_tool::cut_lines_expand_alike;
@@ -11,8 +12,8 @@ use geo_tool::cut_lines_expand_alike;
 /// needs no more of its lines.
 pub fn long_lines_are_answered_alike()
     ensures read { (line : List ℕ) → read_of (take 201 line) ≡ read_of line }
-    ensures printed { (lines : List (List ℕ)) → printed_at beginning (map (take 201) lines) ≡ printed_at beginning lines }
-    ensures refused { (lines : List (List ℕ)) → refuses_at beginning (map (take 201) lines) ≡ refuses_at beginning lines }
+    ensures printed { (kinds : List ViewKind) (lines : List (List ℕ)) → printed_at (beginning kinds) (map (take 201) lines) ≡ printed_at (beginning kinds) lines }
+    ensures refused { (kinds : List ViewKind) (lines : List (List ℕ)) → refuses_at (beginning kinds) (map (take 201) lines) ≡ refuses_at (beginning kinds) lines }
 {
     cut_lines_expand_alike();
 }

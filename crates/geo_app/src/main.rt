@@ -3,7 +3,10 @@
 #![tactic(auto)]
 
 mod batch;
+#[cfg(test)]
+mod batches;
 mod batching;
+mod boxes;
 mod carrying;
 mod checks;
 #[cfg(test)]
@@ -11,6 +14,8 @@ mod failing;
 #[cfg(test)]
 mod gates;
 mod generated;
+#[cfg(test)]
+mod hostile;
 #[cfg(test)]
 mod ledgers;
 mod long_jobs;
@@ -24,26 +29,56 @@ mod rows;
 mod steps;
 mod task;
 #[cfg(test)]
+mod tools;
+#[cfg(test)]
+mod transcripts;
+#[cfg(test)]
+mod views;
+#[cfg(test)]
 mod words;
 mod work;
+#[cfg(test)]
+mod zeros;
 
-use geo_io::{ReadSource, WriteSink};
+use boxes::add_view;
+use geo_io::{ReadSource, Sink, Source, WriteSink};
 use geo_settle::OpenGate;
+use geo_view::{DualView, PlaneView, TableView, View};
 use program::{Outcome, run_program};
+use std::alloc::{AllocError, Global};
 use std::env;
 use std::io::ErrorKind;
 use std::process::ExitCode;
+use std::thread::Threads;
 
 fn main(rt: HostRuntime) -> ExitCode {
     let outcome = match read_words(&rt) {
         Ok(words) => {
             let mut source = ReadSource::new(rt.stdin());
             let mut sink = WriteSink::new(rt.stdout());
-            run_program(&rt, rt.alloc(), &words, &mut source, &mut sink, &OpenGate)
+            match run_with_views(&rt, rt.alloc(), &words, &mut source, &mut sink) {
+                Ok(outcome) => outcome,
+                Err(_) => Outcome::NoMemory,
+            }
         }
         Err(outcome) => outcome,
     };
     ExitCode::from(outcome.status())
+}
+
+/// Runs the program with an empty table, an empty plane and an empty dual plane.
+fn run_with_views<R: Threads + Sync, S: Source, K: Sink>(
+    rt: &R,
+    alloc: Global,
+    words: &[String],
+    source: &mut S,
+    sink: &mut K,
+) -> Result<Outcome, AllocError> {
+    let mut views: Vec<Box<dyn View>> = Vec::new(alloc);
+    add_view(&mut views, Box::new(alloc, TableView::new(alloc))?)?;
+    add_view(&mut views, Box::new(alloc, PlaneView::new(alloc))?)?;
+    add_view(&mut views, Box::new(alloc, DualView::new(alloc))?)?;
+    Ok(run_program(rt, alloc, words, source, sink, views, &OpenGate))
 }
 
 /// The words of the command line, without the program's own name. A word that is

@@ -4,6 +4,8 @@
 ghost use Rattle.std.specs.Prelude.{◌≡◌, ◌≢◌, ℕ, List, [], Option, ◌<◌, ◌≤◌, ◌^◌, ◌↔◌, ◌⊎◌, length, None, Some};
 ghost use Rattle.geo_io.specs.Faults.{Rose};
 ghost use Rattle.geo_io.specs.Pieces.{Takes};
+ghost use Rattle.geo_view.specs.declared.shown.ViewKind.{ViewKind};
+ghost use Rattle.geo_session.specs.Views.{AreEmpty, kinds_of};
 ghost use Rattle.geo_app.specs.declared.task.Request.{Request};
 ghost use Rattle.geo_app.specs.declared.task.Task.{Task as Aim};
 ghost use Rattle.geo_app.specs.Outcomes.{status_of, Headline, IsAnswered, IsStopped};
@@ -24,6 +26,7 @@ use geo_checker::{
 use geo_io::{Sink, SinkEnd, Source, SureSink, SureSource};
 use geo_session::printed_verdicts_are_true;
 use geo_settle::Gate;
+use geo_view::{View, Wall};
 use std::alloc::Global;
 use std::thread::Threads;
 
@@ -66,16 +69,20 @@ impl Outcome {
 
 /// Runs the program on the words of its command line, without its own name: carries out
 /// the task that they set, reads what it needs from the source, and writes the replies to
-/// the sink.
+/// the sink. The views of a script are numbered in their order, and see each change of its
+/// sketch; they are dropped with the session, where the script did not close them before, and
+/// unused where there is no script to read.
 pub fn run_program<R: Threads + Sync, S: Source, K: Sink, G: Gate + Sync>(
     rt: &R,
     alloc: Global,
     words: &[String],
     source: &mut S,
     sink: &mut K,
+    views: Vec<Box<dyn View>>,
     gate: &G,
 ) -> Outcome
-    ensures headline { (request : Request) → request_of words.now ≡ Some request → Takes (S.left source.old) (S.left source.new) (λ taken. Headline request.task request.workers result taken (S.left source.new) (K.held sink.old) (K.held sink.new)) }
+    requires { AreEmpty sight views.items }
+    ensures headline { (request : Request) → request_of words.now ≡ Some request → Takes (S.left source.old) (S.left source.new) (λ taken. Headline (kinds_of sight views.items) request.task request.workers result taken (S.left source.new) (K.held sink.old) (K.held sink.new)) }
     ensures usage { (result ≡ Outcome.Usage) ↔ (task_of words.now ≡ None) }
     ensures untouched { result ≡ Outcome.Usage → (source.new ≡ source.old) × (sink.new ≡ sink.old) }
     ensures read_fault { result ≡ Outcome.ReadFault → Rose (S.fault_count source.old) (S.fault_count source.new) }
@@ -85,7 +92,7 @@ pub fn run_program<R: Threads + Sync, S: Source, K: Sink, G: Gate + Sync>(
 {
     match request_of(words) {
         Some(request) => match request.task {
-            Task::Run => run(rt, alloc, request.workers, source, sink, gate),
+            Task::Run => run(rt, alloc, request.workers, source, sink, views, gate),
             Task::Check => check(alloc, source, sink),
             Task::Generate(seed) => generate(rt, alloc, seed, request.workers, sink, gate),
             Task::Batch => run_batch(rt, alloc, request.workers, source, sink),
@@ -101,16 +108,18 @@ pub fn run_in_memory<R: Threads + Sync, G: Gate + Sync>(
     words: &[String],
     source: &mut SureSource,
     sink: &mut SureSink,
+    views: Vec<Box<dyn View>>,
     gate: &G,
 ) -> Outcome
-    ensures headline { (request : Request) → request_of words.now ≡ Some request → Takes (Some source.old) (Some source.new) (λ taken. Headline request.task request.workers result taken (Some source.new) (Some sink.old) (Some sink.new)) }
+    requires { AreEmpty sight views.items }
+    ensures headline { (request : Request) → request_of words.now ≡ Some request → Takes (Some source.old) (Some source.new) (λ taken. Headline (kinds_of sight views.items) request.task request.workers result taken (Some source.new) (Some sink.old) (Some sink.new)) }
     ensures usage { (result ≡ Outcome.Usage) ↔ (task_of words.now ≡ None) }
     ensures untouched { result ≡ Outcome.Usage → (source.new ≡ source.old) × (sink.new ≡ sink.old) }
     ensures sure { (result ≢ Outcome.ReadFault) × (result ≢ Outcome.WriteFault) }
     ensures generated { (seed : ℕ) → task_of words.now ≡ Some (Aim.Generate seed) → (source.new ≡ source.old) × ((result ≡ Outcome.Done) ⊎ (result ≡ Outcome.NoMemory)) }
     ensures complete { (task : Aim) → task_of words.now ≡ Some task → length source.old ≤ 2 ^ 24 → IsAnswered result ⊎ (result ≡ Outcome.NoMemory) }
 {
-    run_program(rt, alloc, words, source, sink, gate)
+    run_program(rt, alloc, words, source, sink, views, gate)
 }
 
 /// The bytes that are read of a line of a script: one more than it may have, so that a line that
@@ -127,24 +136,41 @@ fn run<R: Threads + Sync, S: Source, K: Sink, G: Gate + Sync>(
     workers: u64,
     source: &mut S,
     sink: &mut K,
+    views: Vec<Box<dyn View>>,
     gate: &G,
 ) -> Outcome
-    requires { (0 < workers) × (workers ≤ 16) }
-    ensures headline { Takes (S.left source.old) (S.left source.new) (λ taken. Headline Task.Run workers result taken (S.left source.new) (K.held sink.old) (K.held sink.new)) }
+    requires empty { AreEmpty sight views.items }
+    requires workers { (0 < workers) × (workers ≤ 16) }
+    ensures headline { Takes (S.left source.old) (S.left source.new) (λ taken. Headline (kinds_of sight views.items) Task.Run workers result taken (S.left source.new) (K.held sink.old) (K.held sink.new)) }
     ensures ended { IsAnswered result ⊎ IsStopped result }
     ensures read_fault { result ≡ Outcome.ReadFault → Rose (S.fault_count source.old) (S.fault_count source.new) }
     ensures write_fault { result ≡ Outcome.WriteFault → Rose (K.fault_count sink.old) (K.fault_count sink.new) }
 {
     printed_verdicts_are_true();
     long_lines_are_answered_alike();
-    match Replies::new(alloc, workers) {
-        Ok(mut replies) => carry_out(rt, alloc, SCRIPT_LINE, &mut replies, source, sink, gate),
-        Err(_) => Outcome::NoMemory,
-    }
+    let wall = match Wall::new(alloc, views) {
+        Ok(wall) => wall,
+        Err(_) => return Outcome::NoMemory,
+    };
+    let mut replies = Replies::new(alloc, wall, workers);
+    carry_out(rt, alloc, SCRIPT_LINE, &mut replies, source, sink, gate)
 }
 
-/// The bytes of a line of a batch that are kept: with one more for the end of the line, one more than
-/// a job may have.
+/// Checks each line of certificates as soon as it is read, one after the other.
+fn check<S: Source, K: Sink>(alloc: Global, source: &mut S, sink: &mut K) -> Outcome
+    ensures headline { (kinds : List ViewKind) (workers : ℕ) → Takes (S.left source.old) (S.left source.new) (λ taken. Headline kinds Task.Check workers result taken (S.left source.new) (K.held sink.old) (K.held sink.new)) }
+    ensures ended { IsAnswered result ⊎ IsStopped result }
+    ensures read_fault { result ≡ Outcome.ReadFault → Rose (S.fault_count source.old) (S.fault_count source.new) }
+    ensures write_fault { result ≡ Outcome.WriteFault → Rose (K.fault_count sink.old) (K.fault_count sink.new) }
+{
+    answers_are_right();
+    long_certificates_are_answered_alike();
+    let mut checks = Checks::new(alloc);
+    check_lines(alloc, CERTIFICATE_LINE, &mut checks, source, sink)
+}
+
+/// The bytes of a line of a batch that are kept: with one more for the end of the line, one more
+/// than a job may have.
 const BATCH_LINE: usize = 65_537;
 
 /// Carries out many scripts, each on its own, so many side by side.
@@ -156,7 +182,7 @@ fn run_batch<R: Threads + Sync, S: Source, K: Sink>(
     sink: &mut K,
 ) -> Outcome
     requires { (0 < workers) × (workers ≤ 16) }
-    ensures headline { Takes (S.left source.old) (S.left source.new) (λ taken. Headline Task.Batch workers result taken (S.left source.new) (K.held sink.old) (K.held sink.new)) }
+    ensures headline { (kinds : List ViewKind) → Takes (S.left source.old) (S.left source.new) (λ taken. Headline kinds Task.Batch workers result taken (S.left source.new) (K.held sink.old) (K.held sink.new)) }
     ensures ended { IsAnswered result ⊎ IsStopped result }
     ensures read_fault { result ≡ Outcome.ReadFault → Rose (S.fault_count source.old) (S.fault_count source.new) }
     ensures write_fault { result ≡ Outcome.WriteFault → Rose (K.fault_count sink.old) (K.fault_count sink.new) }
@@ -165,19 +191,6 @@ fn run_batch<R: Threads + Sync, S: Source, K: Sink>(
     verdicts_of_jobs_are_true();
     let mut batch = Batch::new(alloc, workers);
     carry_out_jobs(rt, alloc, BATCH_LINE, &mut batch, source, sink)
-}
-
-/// Checks each line of certificates as soon as it is read, one after the other.
-fn check<S: Source, K: Sink>(alloc: Global, source: &mut S, sink: &mut K) -> Outcome
-    ensures headline { (workers : ℕ) → Takes (S.left source.old) (S.left source.new) (λ taken. Headline Task.Check workers result taken (S.left source.new) (K.held sink.old) (K.held sink.new)) }
-    ensures ended { IsAnswered result ⊎ IsStopped result }
-    ensures read_fault { result ≡ Outcome.ReadFault → Rose (S.fault_count source.old) (S.fault_count source.new) }
-    ensures write_fault { result ≡ Outcome.WriteFault → Rose (K.fault_count sink.old) (K.fault_count sink.new) }
-{
-    answers_are_right();
-    long_certificates_are_answered_alike();
-    let mut checks = Checks::new(alloc);
-    check_lines(alloc, CERTIFICATE_LINE, &mut checks, source, sink)
 }
 
 /// Carries out a generated script, for which nothing is read.
@@ -191,7 +204,7 @@ fn generate<R: Threads + Sync, K: Sink, G: Gate + Sync>(
     gate: &G,
 ) -> Outcome
     requires { (0 < workers) × (workers ≤ 16) }
-    ensures headline { (left : Option (List ℕ)) → Headline (Task.Generate seed) workers result [] left (K.held sink.old) (K.held sink.new) }
+    ensures headline { (kinds : List ViewKind) (left : Option (List ℕ)) → Headline kinds (Task.Generate seed) workers result [] left (K.held sink.old) (K.held sink.new) }
     ensures ended { (result ≡ Outcome.Done) ⊎ ((result ≡ Outcome.WriteFault) ⊎ (result ≡ Outcome.NoMemory)) }
     ensures write_fault { result ≡ Outcome.WriteFault → Rose (K.fault_count sink.old) (K.fault_count sink.new) }
 {

@@ -1,83 +1,348 @@
 //! Scripts with steps of derivation, and what the program writes for them.
 
-use crate::program::{Outcome, run_in_memory};
-use geo_io::{SureSink, SureSource};
-use geo_settle::OpenGate;
-use std::alloc::{AllocError, Global};
+use crate::transcripts::assert_runs;
+use std::alloc::AllocError;
 
-/// What it is, how the run ends, the script, and the reply, which was worked out by hand.
-const STEPS: [(&str, Outcome, &[u8], &[u8]); 8] = [
-    (
-        "a step past a grid of 10^8 * 2^3 points, and one over a premise that holds and is not settled",
-        Outcome::SomeRefused,
-        b"point A 0 0\npoint B 1 2\npoint C 3 1\npoint D 2 -1\npoint E -1 2\npoint F 2 3\npoint G 1 -2\npoint H -2 1\njoin ab A B\njoin cd C D\nmeet X ab cd\njoin ef E F\njoin gh G H\nmeet Y ef gh\njoin l X Y\non P l 1\non Q l 2\non R l 3\ninfer span P Q R l\ninfer lie P Q R l\n",
-        b"ok\nok\nok\nok\nok\nok\nok\nok\nok\nok\nok\nok\nok\nok\nok\nok\nok\nok\ninferred collinear P Q R\nrefused 20 unproved\n",
-    ),
-    (
-        "a line that breaks down everywhere, and three points that are not collinear",
-        Outcome::SomeRefused,
-        b"point A 0 0\njoin l A A\non P l 1\non Q l 2\non R l 3\ninfer span P Q R l\npoint B 1 0\npoint C 0 1\npoint D 1 1\ninfer extend A B C D\n",
-        b"ok\nok\nok\nok\nok\nrefused 6 degenerate\nok\nok\nok\nrefused 10 unproved\n",
-    ),
-    (
-        "each rule on points",
-        Outcome::Done,
-        b"point A 0 0\npoint B 1 2\npoint C 3 1\njoin l A B\non P l 1\non Q l 2\non R l 3\njoin k P C\nmeet X l k\ninfer span P Q R l\ninfer span R P A l\ninfer extend A B P Q\ninfer extend B A Q P\ninfer lie P Q R l\ninfer unique P X l k\ninfer unique X P k l\ninfer move P X l\nscreen\n",
-        b"ok\nok\nok\nok\nok\nok\nok\nok\nok\ninferred collinear P Q R\ninferred collinear A P R\ninferred collinear A P Q\ninferred collinear B P Q\ninferred on R l\ninferred same P X\ninferred same P X\ninferred on X l\nA point 0 0 1\nB point 1 2 1\nC point 3 1 1\nl line -2 1 0\nP point 1 2 1\nQ point 2 4 1\nR point 3 6 1\nk line -1 -2 5\nX point 1 2 1\n",
-    ),
-    (
-        "each rule on lines",
-        Outcome::Done,
-        b"point A 0 0\npoint B 1 2\npoint C 3 1\njoin l A B\non P l 1\non Q l 2\non R l 3\njoin k P C\nmeet X l k\ndual\ninfer span P Q R l\ninfer extend A B P Q\ninfer lie P Q R l\ninfer unique P X l k\ninfer move P X l\n",
-        b"ok\nok\nok\nok\nok\nok\nok\nok\nok\nok\ninferred concurrent P Q R\ninferred concurrent A P Q\ninferred on l R\ninferred same P X\ninferred on l X\n",
-    ),
-    (
-        "a side condition that is null everywhere, for each rule",
-        Outcome::SomeRefused,
-        b"point A 0 0\npoint B 1 2\npoint C 3 1\njoin l A B\non P l 1\non Q l 2\non R l 3\njoin k P C\nmeet X l k\njoin n A A\non S n 1\non T n 2\non U n 3\ninfer span S T U n\ninfer extend P X Q R\ninfer lie P X C l\njoin m B A\ninfer unique P Q l m\nmeet N l l\ninfer move N Q l\n",
-        b"ok\nok\nok\nok\nok\nok\nok\nok\nok\nok\nok\nok\nok\nrefused 14 degenerate\nrefused 15 degenerate\nrefused 16 degenerate\nok\nrefused 18 degenerate\nok\nrefused 20 degenerate\n",
-    ),
-    (
-        "a premise that is not so, for each rule",
-        Outcome::SomeRefused,
-        b"point A 0 0\npoint B 1 2\npoint C 3 1\njoin l A B\non P l 1\non Q l 2\non R l 3\njoin k P C\nmeet X l k\ninfer span P Q C l\ninfer extend A B P C\ninfer lie P Q C l\ninfer unique P Q l k\ninfer move P Q l\n",
-        b"ok\nok\nok\nok\nok\nok\nok\nok\nok\nrefused 10 unproved\nrefused 11 unproved\nrefused 12 unproved\nrefused 13 unproved\nrefused 14 unproved\n",
-    ),
-    (
-        "a name twice, in each place",
-        Outcome::SomeRefused,
-        b"point A 0 0\npoint B 1 2\npoint C 3 1\njoin l A B\non P l 1\non Q l 2\non R l 3\njoin k P C\nmeet X l k\ninfer span P P R l\ninfer span P Q P l\ninfer span P Q Q l\ninfer extend A B P A\ninfer extend A B P B\ninfer extend A B P P\ninfer lie P P R l\ninfer lie P Q P l\ninfer unique P P l k\ninfer unique P Q l l\ninfer move P P l\n",
-        b"ok\nok\nok\nok\nok\nok\nok\nok\nok\nrefused 10 repeat\nrefused 11 repeat\nrefused 12 repeat\nrefused 13 repeat\nrefused 14 repeat\nrefused 15 repeat\nrefused 16 repeat\nrefused 17 repeat\nrefused 18 repeat\nrefused 19 repeat\nrefused 20 repeat\n",
-    ),
-    (
-        "steps that say nothing",
-        Outcome::SomeRefused,
-        b"point A 0 0\npoint B 1 2\npoint C 3 1\njoin l A B\non P l 1\non Q l 2\non R l 3\njoin k P C\nmeet X l k\ninfer\ninfer foo P Q R l\ninfer foo\ninfer span P Q R\ninfer span P Q R l l\ninfer move P Q l k\ninfer span P Q R 7\ninfer span P Q R Z\ninfer span P Q l R\ninfer span P Q R P\ninfer move P Q R\ninferred P\n\tinfer  move P X l  \n",
-        b"ok\nok\nok\nok\nok\nok\nok\nok\nok\nrefused 10 arity\nrefused 11 command\nrefused 12 command\nrefused 13 arity\nrefused 14 arity\nrefused 15 arity\nrefused 16 name\nrefused 17 unknown\nrefused 18 kind\nrefused 19 kind\nrefused 20 kind\nrefused 21 command\ninferred on X l\n",
-    ),
-];
-
-fn run_word(alloc: Global) -> Result<Vec<String>, AllocError> {
-    let mut words = Vec::new(alloc);
-    words.push(String::from_str(alloc, "run")?)?;
-    Ok(words)
-}
-
-fn bytes_of(alloc: Global, text: &[u8]) -> Result<Vec<u8>, AllocError> {
-    let mut bytes = Vec::new(alloc);
-    bytes.extend_from_slice(text)?;
-    Ok(bytes)
-}
+/// The replies were worked out by hand.
+const STEPS: &str = "\
+@ a step past a grid of 10^8 * 2^3 points, whose claim has no certificate
+point A 0 0
+> ok
+point B 1 2
+> ok
+point C 3 1
+> ok
+point D 2 -1
+> ok
+point E -1 2
+> ok
+point F 2 3
+> ok
+point G 1 -2
+> ok
+point H -2 1
+> ok
+join ab A B
+> ok
+join cd C D
+> ok
+meet X ab cd
+> ok
+join ef E F
+> ok
+join gh G H
+> ok
+meet Y ef gh
+> ok
+join l X Y
+> ok
+on P l 1
+> ok
+on Q l 2
+> ok
+on R l 3
+> ok
+certify collinear P Q R
+> unsettled grid collinear P Q R
+infer span P Q R l
+> inferred collinear P Q R
+@ the same, and one over a premise that holds and is not settled
+point A 0 0
+> ok
+point B 1 2
+> ok
+point C 3 1
+> ok
+point D 2 -1
+> ok
+point E -1 2
+> ok
+point F 2 3
+> ok
+point G 1 -2
+> ok
+point H -2 1
+> ok
+join ab A B
+> ok
+join cd C D
+> ok
+meet X ab cd
+> ok
+join ef E F
+> ok
+join gh G H
+> ok
+meet Y ef gh
+> ok
+join l X Y
+> ok
+on P l 1
+> ok
+on Q l 2
+> ok
+on R l 3
+> ok
+infer span P Q R l
+> inferred collinear P Q R
+infer lie P Q R l
+> refused 20 unproved
+@ a line that breaks down everywhere, and three points that are not collinear
+point A 0 0
+> ok
+join l A A
+> ok
+on P l 1
+> ok
+on Q l 2
+> ok
+on R l 3
+> ok
+infer span P Q R l
+> refused 6 degenerate
+point B 1 0
+> ok
+point C 0 1
+> ok
+point D 1 1
+> ok
+infer extend A B C D
+> refused 10 unproved
+@ each rule on points
+point A 0 0
+> ok
+point B 1 2
+> ok
+point C 3 1
+> ok
+join l A B
+> ok
+on P l 1
+> ok
+on Q l 2
+> ok
+on R l 3
+> ok
+join k P C
+> ok
+meet X l k
+> ok
+infer span P Q R l
+> inferred collinear P Q R
+infer span R P A l
+> inferred collinear A P R
+infer extend A B P Q
+> inferred collinear A P Q
+infer extend B A Q P
+> inferred collinear B P Q
+infer lie P Q R l
+> inferred on R l
+infer unique P X l k
+> inferred same P X
+infer unique X P k l
+> inferred same P X
+infer move P X l
+> inferred on X l
+screen
+> A point 0 0 1
+> B point 1 2 1
+> C point 3 1 1
+> l line -2 1 0
+> P point 1 2 1
+> Q point 2 4 1
+> R point 3 6 1
+> k line -1 -2 5
+> X point 1 2 1
+@ each rule on lines
+point A 0 0
+> ok
+point B 1 2
+> ok
+point C 3 1
+> ok
+join l A B
+> ok
+on P l 1
+> ok
+on Q l 2
+> ok
+on R l 3
+> ok
+join k P C
+> ok
+meet X l k
+> ok
+dual
+> ok
+infer span P Q R l
+> inferred concurrent P Q R
+infer extend A B P Q
+> inferred concurrent A P Q
+infer lie P Q R l
+> inferred on l R
+infer unique P X l k
+> inferred same P X
+infer move P X l
+> inferred on l X
+@ a side condition that is null everywhere, for each rule
+point A 0 0
+> ok
+point B 1 2
+> ok
+point C 3 1
+> ok
+join l A B
+> ok
+on P l 1
+> ok
+on Q l 2
+> ok
+on R l 3
+> ok
+join k P C
+> ok
+meet X l k
+> ok
+join n A A
+> ok
+on S n 1
+> ok
+on T n 2
+> ok
+on U n 3
+> ok
+infer span S T U n
+> refused 14 degenerate
+infer extend P X Q R
+> refused 15 degenerate
+infer lie P X C l
+> refused 16 degenerate
+join m B A
+> ok
+infer unique P Q l m
+> refused 18 degenerate
+meet N l l
+> ok
+infer move N Q l
+> refused 20 degenerate
+@ a premise that is not so, for each rule
+point A 0 0
+> ok
+point B 1 2
+> ok
+point C 3 1
+> ok
+join l A B
+> ok
+on P l 1
+> ok
+on Q l 2
+> ok
+on R l 3
+> ok
+join k P C
+> ok
+meet X l k
+> ok
+infer span P Q C l
+> refused 10 unproved
+infer extend A B P C
+> refused 11 unproved
+infer lie P Q C l
+> refused 12 unproved
+infer unique P Q l k
+> refused 13 unproved
+infer move P Q l
+> refused 14 unproved
+@ a name twice, in each place
+point A 0 0
+> ok
+point B 1 2
+> ok
+point C 3 1
+> ok
+join l A B
+> ok
+on P l 1
+> ok
+on Q l 2
+> ok
+on R l 3
+> ok
+join k P C
+> ok
+meet X l k
+> ok
+infer span P P R l
+> refused 10 repeat
+infer span P Q P l
+> refused 11 repeat
+infer span P Q Q l
+> refused 12 repeat
+infer extend A B P A
+> refused 13 repeat
+infer extend A B P B
+> refused 14 repeat
+infer extend A B P P
+> refused 15 repeat
+infer lie P P R l
+> refused 16 repeat
+infer lie P Q P l
+> refused 17 repeat
+infer unique P P l k
+> refused 18 repeat
+infer unique P Q l l
+> refused 19 repeat
+infer move P P l
+> refused 20 repeat
+@ steps that say nothing
+point A 0 0
+> ok
+point B 1 2
+> ok
+point C 3 1
+> ok
+join l A B
+> ok
+on P l 1
+> ok
+on Q l 2
+> ok
+on R l 3
+> ok
+join k P C
+> ok
+meet X l k
+> ok
+infer
+> refused 10 arity
+infer foo P Q R l
+> refused 11 command
+infer foo
+> refused 12 command
+infer span P Q R
+> refused 13 arity
+infer span P Q R l l
+> refused 14 arity
+infer move P Q l k
+> refused 15 arity
+infer span P Q R 7
+> refused 16 name
+infer span P Q R Z
+> refused 17 unknown
+infer span P Q l R
+> refused 18 kind
+infer span P Q R P
+> refused 19 kind
+infer move P Q R
+> refused 20 kind
+inferred P
+> refused 21 command
+\tinfer  move P X l \x20
+> inferred on X l
+";
 
 #[test]
 fn takes_steps(rt: HostRuntime) -> Result<(), AllocError> {
-    for (about, outcome, script, reply) in STEPS {
-        let mut source = SureSource::new(bytes_of(rt.alloc(), script)?);
-        let mut sink = SureSink::new(rt.alloc());
-        let words = run_word(rt.alloc())?;
-        let ended = run_in_memory(&rt, rt.alloc(), &words, &mut source, &mut sink, &OpenGate);
-        assert_eq!(rt; sink.held(), reply, "{about}");
-        assert_eq!(rt; ended, outcome, "{about}");
-    }
-    Ok(())
+    assert_runs(&rt, rt.alloc(), "run", STEPS)
 }

@@ -2,7 +2,7 @@
 
 ghost use Rattle.std.specs.Prelude.{◌≡◌, ◌++◌, ◌||◌, map, IfOk, OnOk, List, ℕ, []};
 ghost use Rattle.geo_session.specs.Printed.{text_of};
-ghost use Rattle.geo_script.specs.Places.{beginning, printed_at, refuses_at};
+ghost use Rattle.geo_script.specs.Places.{StandsAt, beginning, printed_at, refuses_at};
 ghost use Rattle.geo_app.specs.Batches.{job_line};
 ghost use Rattle.geo_app.specs.Sheets.{has_line, sheet_of, with_line};
 
@@ -10,6 +10,7 @@ use crate::refusals::or_refused;
 use geo_batch::{Job, NoMemory};
 use geo_script::Script;
 use geo_settle::OpenGate;
+use geo_view::{NoViews, Views};
 use std::alloc::{AllocError, Global};
 use std::marker::Model;
 use std::thread::Threads;
@@ -145,11 +146,23 @@ fn carry_out_alone<R: Threads + Sync>(
     lines: &[Vec<u8>],
     out: &mut Vec<u8>,
 ) -> Result<bool, NoMemory>
-    ensures { IfOk result (λ refused. (out.new.items ≡ out.old.items ++ text_of (printed_at beginning (map (λ line. line.items) lines.now))) × (refused ≡ refuses_at beginning (map (λ line. line.items) lines.now))) }
+    ensures { IfOk result (λ refused. (out.new.items ≡ out.old.items ++ text_of (printed_at (beginning []) (map (λ line. line.items) lines.now))) × (refused ≡ refuses_at (beginning []) (map (λ line. line.items) lines.now))) }
 {
-    let Ok(mut script) = Script::new(alloc, 1) else {
-        return Err(NoMemory);
-    };
+    let mut script = Script::new(alloc, NoViews, 1);
+    take_all(rt, alloc, &mut script, lines, out)
+}
+
+/// Carries out the lines on a script with nothing done.
+fn take_all<R: Threads + Sync, W: Views>(
+    rt: &R,
+    alloc: Global,
+    script: &mut Script<W>,
+    lines: &[Vec<u8>],
+    out: &mut Vec<u8>,
+) -> Result<bool, NoMemory>
+    requires { StandsAt W.shows script.old (beginning []) }
+    ensures { IfOk result (λ refused. (out.new.items ≡ out.old.items ++ text_of (printed_at (beginning []) (map (λ line. line.items) lines.now))) × (refused ≡ refuses_at (beginning []) (map (λ line. line.items) lines.now))) }
+{
     let mut refused = false;
     for line in lines {
         match script.take(rt, alloc, line, out, &OpenGate) {

@@ -1,4 +1,5 @@
 -- An expression asks what a grid can answer, and it is 0 where it is 0 at all values of its axes.
+-- lemmas for other crates
 use Rattle.std.proofs.Common.{◌≡◌, ◌∙◌, sym, ap, ap₂, subst, refl, ℕ, zero, suc, ◌+◌, ◌*◌, ◌/◌, ◌<◌, ◌≤◌, max, ⊎_elim, inl, inr, ◌⊎◌, List, [], ◌∷◌, length, get_or, set, map, All, AllPairs, Contains, ℤ, pos, ◌+ℤ◌, ◌*ℤ◌, unsigned_abs, if◌then◌else◌, ◌^◌, arith}
 use Rattle.std.specs.List.{AllZip}
 use Rattle.std.specs.Prelude.{◌==◌}
@@ -54,6 +55,15 @@ at_most_three (a ∷ axes) p =
     let low : 3 ≤ 3 = omega arith in
     cond_both (a.param == p) 3 (at_axes 0 axes (map (λ (b : Axis). 3) axes) p) (λ (m : ℕ). m ≤ 3) (λ t. low) (λ t. at_most_three axes p)
 
+-- the assignment of the values that are named is that of the axes
+at_named_axes : (axes : List Axis) (xs : List ℤ) (p : ℕ) → assignment_of (named axes xs) p ≡ at_axes (pos 0) axes xs p
+at_named_axes [] xs p = refl
+at_named_axes (a ∷ axes) [] p = refl
+at_named_axes (a ∷ axes) (x ∷ xs) p = ap (λ y. if a.param == p then x else y) (at_named_axes axes xs p)
+
+pub named_axes : (axes : List Axis) (xs : List ℤ) → assignment_of (named axes xs) ≡ at_axes (pos 0) axes xs
+named_axes axes xs i p = at_named_axes axes xs p i
+
 module _ (es : List Element) (c : IsConstruction es) where
   pub expression_grows : (ts : Terms) (m n : ℕ → ℕ) → ((p : ℕ) → m p ≤ n p) → expression_height es ts m ≤ expression_height es ts n
   expression_grows ts m n h = sum_grows (bracket_height es m) (bracket_height es n) (λ b. statement_height_grows es c m n h (statement_of b)) ts
@@ -82,14 +92,6 @@ module _ (es : List Element) (c : IsConstruction es) where
   -- ---- at every assignment
   pub zero_where_holds : (ts : Terms) → IsZeroExpression es ts → IsZeroEverywhere (expression_question es ts)
   zero_where_holds ts holds xs l = (sym (ap (expression_value es ts) (named_axes (expression_axes es ts) xs)) ∙ holds (named (expression_axes es ts) xs), tt)
-    where
-      at_named_axes : (axes : List Axis) (xs : List ℤ) (p : ℕ) → assignment_of (named axes xs) p ≡ at_axes (pos 0) axes xs p
-      at_named_axes [] xs p = refl
-      at_named_axes (a ∷ axes) [] p = refl
-      at_named_axes (a ∷ axes) (x ∷ xs) p = ap (λ y. if a.param == p then x else y) (at_named_axes axes xs p)
-
-      named_axes : (axes : List Axis) (xs : List ℤ) → assignment_of (named axes xs) ≡ at_axes (pos 0) axes xs
-      named_axes axes xs i p = at_named_axes axes xs p i
 
   pub holds_where_zero : (ts : Terms) → IsZeroEverywhere (expression_question es ts) → IsZeroExpression es ts
   holds_where_zero ts clear entries =

@@ -1,3 +1,8 @@
 pub mod Terms
+pub mod Grammar
 pub mod Expressions
+pub mod Resolving
 pub mod Questions
+pub mod Limits
+pub mod Posing
+pub mod Verdicts

@@ -1,5 +1,5 @@
 -- Sums of products of brackets, and what is made of them bracket by bracket.
-use Rattle.std.specs.Prelude.{ℕ, ◌+◌, ◌*◌, max, ℤ, pos, ◌+ℤ◌, ◌*ℤ◌, unsigned_abs, List, [], ◌∷◌, All}
+use Rattle.std.specs.Prelude.{ℕ, ◌+◌, ◌*◌, ◌≤◌, max, ℤ, pos, ◌+ℤ◌, ◌*ℤ◌, unsigned_abs, List, [], ◌∷◌, length, All}
 use Rattle.geo_law.specs.Coefficients.{multiple_of_list, product_of_lists, sum_of_lists}
 use Rattle.geo_law.specs.Tables.{multiple_of_table, product_of_tables, sum_of_tables}
 use Rattle.geo_bracket.specs.declared.expressions.Bracket.{Bracket}
@@ -8,6 +8,11 @@ use Rattle.geo_bracket.specs.declared.expressions.Bracket.{Bracket}
 pub record Product (X : Type 0) : Type 0 where
   pub number : ℤ
   pub brackets : List X
+
+-- at most 16 terms, each with a number from -1000 to 1000 and at most 8 brackets
+pub record IsSmall {X : Type 0} (ts : List (Product X)) : Type 0 where
+  pub few : length ts ≤ 16
+  pub short : All (λ (t : Product X). (unsigned_abs t.number ≤ 1000) × (length t.brackets ≤ 8)) ts
 
 module _ {X : Type 0} where
   -- ---- values

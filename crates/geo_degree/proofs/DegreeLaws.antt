@@ -1,4 +1,5 @@
 -- Degrees bound the coefficient lists, and plain heights at magnitude 3 bound degrees.
+-- lemmas for other crates
 use Rattle.std.proofs.Common.{◌≡◌, ◌≢◌, refl, inl, inr, ℕ, ◌+◌, ◌*◌, ◌^◌, ◌≤◌, max, Option, None, Some, List, arith, mul-le-mul}
 use Rattle.std.specs.Prelude.{◌==◌, ◌||◌, ◌/◌}
 use Rattle.std.proofs.Math.Nat.{pow-le-pow_right, one-le-pow}

@@ -1,4 +1,5 @@
 -- Rows of degrees are filled from the front, and read by the place of the parameter.
+-- lemmas for other crates
 use Rattle.std.proofs.Common.{◌≡◌, ◌≢◌, ◌∙◌, sym, ap, subst, refl, inl, inr, ⊎_elim, ℕ, zero, suc, ◌+◌, ◌<◌, ◌≤◌, ◌==◌, if◌then◌else◌, Option, None, Some, List, [], ◌∷◌, ◌++◌, length, get_or, set, All, arith, length-append, get_or-set_same, get_or-set_other}
 use Rattle.std.specs.Prelude.{sum_by, MatchOption}
 use Rattle.std.proofs.lemmas.Bool.{cases_eq, cases_lt, eq-eqb, ne_eqb}

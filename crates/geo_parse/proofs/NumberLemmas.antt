@@ -16,7 +16,8 @@ and_last true true false d h = cc
 and_last true false c d h = cc
 and_last false b c d h = cc
 
-natural_small : (ds : List ℕ) (n : ℕ) → natural_of ds ≡ Some n → n ≤ 1000
+-- a number without a sign is at most 1000
+pub natural_small : (ds : List ℕ) (n : ℕ) → natural_of ds ≡ Some n → n ≤ 1000
 unfolding natural_of
 natural_small ds n = by (is_natural ds) refl
   where

@@ -18,5 +18,6 @@ mod words;
 pub use commands::Command;
 pub use laws::spells_one_command;
 pub use lines::read_line;
+pub use numbers::read_natural;
 pub use printing::print_command;
 pub use words::{Words, split_words};

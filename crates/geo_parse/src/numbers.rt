@@ -15,8 +15,9 @@ pub fn read_number(word: &[u8]) -> Option<i64>
     }
 }
 
+/// Reads one to four digits of a number up to 1000; None where the word is none.
 #[tactic(auto, unfolding(crate::specs::Numbers::natural_of))]
-fn read_natural(digits: &[u8]) -> Option<u16>
+pub fn read_natural(digits: &[u8]) -> Option<u16>
     ensures { result ≡ natural_of digits.now }
 {
     if digits.is_empty() || digits.len() > 4 {

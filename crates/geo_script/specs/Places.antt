@@ -1,5 +1,7 @@
 -- A script carried out line by line, its tools expanded.
-use Rattle.std.specs.Prelude.{◌≡◌, ℕ, ◌++◌, Bool, List, [], ◌∷◌}
+use Rattle.std.specs.Prelude.{◌≡◌, ℕ, ◌++◌, Bool, Option, List, [], ◌∷◌}
+use Rattle.geo_view.specs.declared.shown.ViewKind.{ViewKind}
+use Rattle.geo_view.specs.Sights.{Sight}
 use Rattle.geo_session.specs.Answers.{State, start, answer_of, has_refusal, printed_from}
 use Rattle.geo_session.specs.Printed.{Piece, text_of}
 use Rattle.geo_session.specs.Standing.{StandsFor}
@@ -11,9 +13,9 @@ pub record Place : Type 0 where
   pub state : State
   pub bench : Bench
 
--- nothing is done, and there is no tool
-abbrev pub beginning : Place
-beginning = record { state = start; bench = empty_bench }
+-- nothing is done, the views are of these kinds, and there is no tool
+abbrev pub beginning : List ViewKind → Place
+beginning kinds = record { state = start kinds; bench = empty_bench }
 
 -- the state once these lines are carried out
 unfoldable pub state_after : State → List (List ℕ) → State
@@ -36,9 +38,9 @@ printed_at place lines = printed_from place.state (expansion_from place.bench li
 abbrev pub refuses_at : Place → List (List ℕ) → Bool
 refuses_at place lines = has_refusal place.state (expansion_from place.bench lines)
 
--- the session and the expander stand there
-pub record StandsAt (script : Script) (place : Place) : Type 0 where
-  pub session : StandsFor script.session place.state
+-- the session and the expander stand there. What is seen of its views is handed in
+pub record StandsAt {W : Type 0} (shows : W → List (Option Sight)) (script : Script W) (place : Place) : Type 0 where
+  pub session : StandsFor shows script.session place.state
   pub tools : script.expander ≡ place.bench
 
 -- lines were carried out from a state on: their replies were appended, it is told whether one

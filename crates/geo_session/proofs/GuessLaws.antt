@@ -1,11 +1,11 @@
 -- The conjectures follow a change of the sketch.
-use Rattle.std.proofs.Common.{◌≡◌, ◌∙◌, sym, ap, subst, refl, ℕ, Option, None, Some, List, map}
+use Rattle.std.proofs.Common.{◌≡◌, ◌∙◌, ap, subst, refl, ℕ, None, Some, List}
 use Rattle.std.specs.Prelude.{Bool, true, false, not}
 use Rattle.geo_sketch.specs.declared.changes.Delta.{Delta}
 use Rattle.geo_sketch.specs.declared.changes.Delta.TheVariants as delta
 use Rattle.geo_sketch.specs.declared.elements.Element.{Element}
 use Rattle.geo_sketch.specs.declared.elements.Setting.{Setting}
-use Rattle.geo_sketch.specs.Changes.{applied, exchanged, taken_back, LeadsFrom, LeadsTo}
+use Rattle.geo_sketch.specs.Changes.{applied, taken_back, LeadsFrom, LeadsTo}
 use Rattle.geo_sketch.specs.Sketches.{Drawing, IsDrawn}
 use Rattle.geo_sketch.proofs.DualLaws.{all_exchanged_twice}
 use Rattle.geo_eval.specs.Scenes.{Leads, before_of}

@@ -4,6 +4,7 @@ mod KeptLaws
 mod LedgerLaws
 mod ReachedStates
 mod RefusalLaws
+mod SightLaws
 mod SmallNumbers
 mod StateLaws
 mod StepLaws

@@ -1,5 +1,5 @@
 -- In every state that a script leads to, each change leads from those before it.
-use Rattle.std.proofs.Common.{◌≡◌, ◌∙◌, sym, ap, subst, refl, ℕ, ◌++◌, Option, None, Some, List, [], ◌∷◌, length, append_assoc}
+use Rattle.std.proofs.Common.{◌≡◌, ◌∙◌, sym, ap, subst, refl, ℕ, ℤ, ◌++◌, Option, None, Some, List, [], ◌∷◌, length, append_assoc}
 use Rattle.std.specs.Prelude.{Result, Ok, Err, nat_le, codes}
 use Rattle.std.proofs.lemmas.Bool.{cond_both}
 use Rattle.geo_sketch.specs.declared.changes.Delta.{Delta}
@@ -24,9 +24,13 @@ use Rattle.geo_parse.specs.declared.commands.Command.{Command}
 use Rattle.geo_parse.specs.declared.commands.Command.TheVariants as command
 use Rattle.geo_parse.specs.Reading.{read_of}
 use Rattle.geo_parse.specs.Words.{words}
+use Rattle.geo_bracket.specs.Expressions.{Terms}
+use Rattle.geo_bracket.specs.Resolving.{expression_of}
 use Rattle.geo_infer.specs.Derivations.{inference_of}
 use Rattle.geo_infer.specs.Words.{begins_with}
-use Rattle.geo_session.specs.Answers.{Answer, State, drawing_of, answer_beside, answer_by, answer_of, answer_to, certified, changed, concluded, counted, done_again, is_no_command, last_of, refused, taken_back_to}
+use Rattle.geo_view.specs.Sights.{Sight}
+use Rattle.geo_view.specs.Walls.{sight_at}
+use Rattle.geo_session.specs.Answers.{Answer, State, drawing_of, answer_beside, answer_by, answer_of, answer_of_zero, answer_to, certified, changed, closed_by, concluded, counted, done_again, is_no_command, last_of, refused, settled, shown_by, sights_of, taken_back_to}
 use Rattle.geo_session.proofs.SmallNumbers.{IsSmallCommand, IsSmallRead, read_small}
 use Rattle.geo_session.proofs.StateLaws.{front_is}
 
@@ -75,6 +79,14 @@ module _ (state : State) (h : IsReached state) where
   redo_reached [] q = h
   redo_reached (d ∷ ds) q = subst (AllLead blank) (ap (λ es. state.done ++ es) q ∙ sym (append_assoc state.done (d ∷ []) ds)) h
 
+  show_reached : (o : Option Sight) → IsReached (shown_by state o).next
+  show_reached None = h
+  show_reached (Some s) = h
+
+  close_reached : (k : ℤ) (o : Option Sight) → IsReached (closed_by state k o).next
+  close_reached k None = h
+  close_reached k (Some s) = h
+
   certify_reached : (r : Result Statement Refusal) → IsReached (certified state r).next
   certify_reached (Err r) = h
   certify_reached (Ok s) = h
@@ -92,17 +104,26 @@ module _ (state : State) (h : IsReached state) where
   command_reached command.Ledger small = h
   command_reached (command.Certify said) small = certify_reached (resolution_of (drawing_of state) said)
   command_reached command.Svg small = h
-  command_reached (command.Show k) small = h
-  command_reached (command.Close k) small = h
+  command_reached (command.Show k) small = show_reached (sight_at (sights_of state) k)
+  command_reached (command.Close k) small = close_reached k (sight_at (sights_of state) k)
 
   concluded_reached : (r : Result Statement Refusal) → IsReached (concluded state r).next
   concluded_reached (Err r) = h
   concluded_reached (Ok s) = h
 
+  settled_reached : (r : Result Terms Refusal) → IsReached (settled state r).next
+  settled_reached (Err r) = h
+  settled_reached (Ok ts) = h
+
+  zero_reached : (line : List ℕ) → IsReached (answer_of_zero state line).next
+  zero_reached line =
+      let asked = expression_of (drawing_of state).elements line in
+      cond_both (begins_with (codes "zero") (words line)) (settled state asked) (refused state refusal.Command) (λ (a : Answer). IsReached a.next) (λ t. settled_reached asked) (λ t. h)
+
   beside_reached : (line : List ℕ) → IsReached (answer_beside state line).next
   beside_reached line =
       let inferred = inference_of (drawing_of state).elements line in
-      cond_both (begins_with (codes "infer") (words line)) (concluded state inferred) (refused state refusal.Command) (λ (a : Answer). IsReached a.next) (λ t. concluded_reached inferred) (λ t. h)
+      cond_both (begins_with (codes "infer") (words line)) (concluded state inferred) (answer_of_zero state line) (λ (a : Answer). IsReached a.next) (λ t. concluded_reached inferred) (λ t. zero_reached line)
 
   read_reached : (line : List ℕ) (r : Result (Option Command) Refusal) → IsSmallRead r → IsReached (answer_by state line r).next
   read_reached line (Err r) small = cond_both (is_no_command r) (answer_beside state line) (refused state r) (λ (a : Answer). IsReached a.next) (λ t. beside_reached line) (λ t. h)

@@ -1,5 +1,5 @@
 -- An answer that refuses is the refusal, and changes nothing.
-use Rattle.std.proofs.Common.{◌≡◌, ap, List, [], ◌∷◌, ℕ}
+use Rattle.std.proofs.Common.{◌≡◌, ap, List, [], ◌∷◌, ℕ, ℤ}
 use Rattle.std.specs.Prelude.{Option, None, Some, Result, Ok, Err, codes}
 use Rattle.std.proofs.lemmas.Bool.{cond_both}
 use Rattle.geo_sketch.specs.declared.changes.Delta.{Delta}
@@ -14,11 +14,14 @@ use Rattle.geo_parse.specs.declared.commands.Command.{Command}
 use Rattle.geo_parse.specs.declared.commands.Command.TheVariants as command
 use Rattle.geo_parse.specs.Reading.{read_of}
 use Rattle.geo_parse.specs.Words.{words}
+use Rattle.geo_bracket.specs.Expressions.{Terms}
+use Rattle.geo_bracket.specs.Resolving.{expression_of}
 use Rattle.geo_infer.specs.Derivations.{inference_of}
 use Rattle.geo_infer.specs.Words.{begins_with}
-use Rattle.geo_session.specs.declared.state.Reply.{Reply}
+use Rattle.geo_view.specs.Sights.{Sight}
+use Rattle.geo_view.specs.Walls.{sight_at}
 use Rattle.geo_session.specs.declared.state.Reply.TheVariants.{Refused}
-use Rattle.geo_session.specs.Answers.{Answer, State, drawing_of, answer_beside, answer_by, answer_of, answer_to, certified, changed, concluded, counted, done_again, is_no_command, last_of, refused, taken_back_to}
+use Rattle.geo_session.specs.Answers.{Answer, State, drawing_of, answer_beside, answer_by, answer_of, answer_of_zero, answer_to, certified, changed, closed_by, concluded, counted, done_again, is_no_command, last_of, refused, settled, shown_by, sights_of, taken_back_to}
 
 -- where an answer to a line refuses
 abbrev RefusesOnly : State → Answer → Type 0
@@ -39,6 +42,14 @@ redo_refuses : (state : State) (ds : List Delta) → RefusesOnly state (done_aga
 redo_refuses state [] r is = refusal_only state refusal.Nothing r is
 redo_refuses state (d ∷ ds) r is = cc
 
+show_refuses : (state : State) (o : Option Sight) → RefusesOnly state (shown_by state o)
+show_refuses state None r is = refusal_only state refusal.View r is
+show_refuses state (Some s) r is = cc
+
+close_refuses : (state : State) (k : ℤ) (o : Option Sight) → RefusesOnly state (closed_by state k o)
+close_refuses state k None r is = refusal_only state refusal.View r is
+close_refuses state k (Some s) r is = cc
+
 certify_refuses : (state : State) (x : Result Statement Refusal) → RefusesOnly state (certified state x)
 certify_refuses state (Ok s) r is = cc
 certify_refuses state (Err x) r is = refusal_only state x r is
@@ -55,18 +66,27 @@ command_refuses state command.Redo r is = redo_refuses state state.undone r is
 command_refuses state command.Conjectures r is = cc
 command_refuses state command.Ledger r is = cc
 command_refuses state (command.Certify said) r is = certify_refuses state (resolution_of (drawing_of state) said) r is
-command_refuses state command.Svg r is = refusal_only state refusal.Command r is
-command_refuses state (command.Show k) r is = refusal_only state refusal.Command r is
-command_refuses state (command.Close k) r is = refusal_only state refusal.Command r is
+command_refuses state command.Svg r is = cc
+command_refuses state (command.Show k) r is = show_refuses state (sight_at (sights_of state) k) r is
+command_refuses state (command.Close k) r is = close_refuses state k (sight_at (sights_of state) k) r is
 
 concluded_refuses : (state : State) (x : Result Statement Refusal) → RefusesOnly state (concluded state x)
 concluded_refuses state (Ok s) r is = cc
 concluded_refuses state (Err x) r is = refusal_only state x r is
 
+settled_refuses : (state : State) (x : Result Terms Refusal) → RefusesOnly state (settled state x)
+settled_refuses state (Ok ts) r is = cc
+settled_refuses state (Err x) r is = refusal_only state x r is
+
+zero_refuses : (state : State) (line : List ℕ) → RefusesOnly state (answer_of_zero state line)
+zero_refuses state line =
+    let asked = expression_of (drawing_of state).elements line in
+    cond_both (begins_with (codes "zero") (words line)) (settled state asked) (refused state refusal.Command) (RefusesOnly state) (λ t. settled_refuses state asked) (λ t. refusal_only state refusal.Command)
+
 beside_refuses : (state : State) (line : List ℕ) → RefusesOnly state (answer_beside state line)
 beside_refuses state line =
     let inferred = inference_of (drawing_of state).elements line in
-    cond_both (begins_with (codes "infer") (words line)) (concluded state inferred) (refused state refusal.Command) (RefusesOnly state) (λ t. concluded_refuses state inferred) (λ t. refusal_only state refusal.Command)
+    cond_both (begins_with (codes "infer") (words line)) (concluded state inferred) (answer_of_zero state line) (RefusesOnly state) (λ t. concluded_refuses state inferred) (λ t. zero_refuses state line)
 
 read_refuses : (state : State) (line : List ℕ) (x : Result (Option Command) Refusal) → RefusesOnly state (answer_by state line x)
 read_refuses state line (Err x) = cond_both (is_no_command x) (answer_beside state line) (refused state x) (RefusesOnly state) (λ t. beside_refuses state line) (λ t. refusal_only state x)

@@ -1,10 +1,19 @@
 -- The premises of a step, one after another.
-use Rattle.std.proofs.Common.{◌≡◌, ◌∙◌, sym, ap, subst, ℕ, zero, suc, ◌+◌, ◌<◌, Bool, true, false, List, [], ◌∷◌, length, get_or, drop, arith}
-use Rattle.std.specs.Prelude.{◌&&◌}
+use Rattle.std.proofs.Common.{◌≡◌, ◌∙◌, sym, ap, refl, subst, ℕ, zero, suc, ◌+◌, ◌<◌, Bool, true, false, List, [], ◌∷◌, length, get_or, drop, arith}
+use Rattle.std.specs.Prelude.{◌&&◌, Err}
+use Rattle.geo_sketch.specs.declared.changes.Refusal.TheVariants as refusal
 use Rattle.geo_sketch.specs.declared.elements.Element.{Element}
 use Rattle.geo_sketch.specs.declared.statements.Statement.{Statement}
 use Rattle.geo_sketch.specs.Sketches.{ArePosed, IsPosed}
-use Rattle.geo_infer.specs.Derivations.{are_known, is_known}
+use Rattle.geo_infer.specs.declared.shapes.Shape.{Shape}
+use Rattle.geo_infer.specs.Derivations.{are_known, is_known, is_not_null_somewhere, judged}
+
+-- a step of which a premise is not known, and one whose side condition is null
+pub judged_unproved : (es : List Element) (shape : Shape) → are_known es shape.premises ≡ false → judged es shape ≡ Err refusal.Unproved
+judged_unproved es shape other = rw other refl
+
+pub judged_degenerate : (es : List Element) (shape : Shape) → are_known es shape.premises ≡ true → is_not_null_somewhere es shape.side ≡ false → judged es shape ≡ Err refusal.Degenerate
+judged_degenerate es shape known null = rw (known, null) refl
 
 module _ (es : List Element) where
   pub posed_here : (ss : List Statement) (k : ℕ) (s : Statement) → k < length ss → get_or ss k s ≡ s → ArePosed es ss → IsPosed es s

@@ -1,8 +1,10 @@
 pub mod Texts
 pub mod LedgerTexts
 pub mod Truth
+pub mod Zeros
 pub mod Certificates
 pub mod Printed
+pub mod Views
 pub mod Answers
 pub mod Standing
 pub mod Together

@@ -1,30 +1,8 @@
--- The texts of the screen, and of what is acknowledged or refused.
-use Rattle.std.specs.Prelude.{ℕ, ◌++◌, List, flat_map, codes}
-use Rattle.std.specs.Fmt.{decimal, signed_decimal}
-use Rattle.geo_sketch.specs.declared.elements.Kind.{Kind}
-use Rattle.geo_sketch.specs.declared.elements.Kind.TheVariants.{Point, Line}
+-- The texts of what is acknowledged or refused.
+use Rattle.std.specs.Prelude.{ℕ, ◌++◌, List, codes}
+use Rattle.std.specs.Fmt.{decimal}
 use Rattle.geo_sketch.specs.declared.changes.Refusal.{Refusal}
 use Rattle.geo_sketch.specs.declared.changes.Refusal.TheVariants as refusal
-use Rattle.geo_eval.specs.declared.here.Here.{Here}
-use Rattle.geo_eval.specs.declared.here.Here.TheVariants.{At, NullHere, Far}
-use Rattle.geo_eval.specs.Shown.{Shown}
-
-abbrev pub kind_word : Kind → List ℕ
-kind_word Point = codes "point"
-kind_word Line = codes "line"
-
--- the three coordinates with one space between, or a word
-abbrev pub here_text : Here → List ℕ
-here_text (At t) = signed_decimal t.a ++ (codes " " ++ (signed_decimal t.b ++ (codes " " ++ signed_decimal t.c)))
-here_text NullHere = codes "null"
-here_text Far = codes "far"
-
-abbrev pub screen_line : Shown → List ℕ
-screen_line s = s.name ++ (codes " " ++ (kind_word s.kind ++ (codes " " ++ (here_text s.here ++ codes "\n"))))
-
--- a line for each element
-abbrev pub screen_text : List Shown → List ℕ
-screen_text shown = flat_map screen_line shown
 
 abbrev pub ok_line : List ℕ
 ok_line = codes "ok\n"

@@ -15,6 +15,6 @@ pub record AreFollowersOf (drawing : Drawing) (followers : Followers) : Type 0 w
   pub right : AreKept drawing followers.ledger
 
 -- the sketch is what the done changes make, and the followers are those of the sketch
-pub record IsTogether (desk : Desk) : Type 0 where
+pub record IsTogether {W : Type 0} (desk : Desk W) : Type 0 where
   pub made : desk.sketch ≡ made_of desk.history.done
   pub followers : AreFollowersOf desk.sketch desk.followers

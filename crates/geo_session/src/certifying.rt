@@ -18,10 +18,11 @@ use geo_cert::{Certificate, make, write};
 use geo_ledger::Ledger;
 use geo_settle::Gate;
 use geo_sketch::{NoMemory, Said, Sketch, Statement, Verdict};
+use geo_view::Views;
 use std::alloc::{AllocError, Global};
 use std::thread::Threads;
 
-impl Desk {
+impl<W: Views> Desk<W> {
     /// Writes the certificate of the statement that is said, or the line of the ledger where
     /// it is not settled.
     pub(crate) fn certify<R: Threads + Sync, G: Gate + Sync>(
@@ -33,7 +34,7 @@ impl Desk {
         gate: &G,
     ) -> Result<Reply, NoMemory>
         requires { IsTogether self.old }
-        ensures gives { IfOk result (λ reply. (state : State) → IsAt self.old state → Gives (certified state (resolution_of (drawing_of state) said.now)) reply out.old.items out.new.items (IsAt self.new)) }
+        ensures gives { IfOk result (λ reply. (state : State) → IsAt W.shows self.old state → Gives (certified state (resolution_of (drawing_of state) said.now)) reply out.old.items out.new.items (IsAt W.shows self.new)) }
         ensures together { OnOk result (IsTogether self.new) }
     {
         match self.sketch.resolve(said) {
@@ -52,7 +53,7 @@ impl Desk {
     ) -> Result<Reply, NoMemory>
         requires posed { IsPosed self.old.sketch.elements statement.now }
         requires together { IsTogether self.old }
-        ensures gives { IfOk result (λ reply. (state : State) → IsAt self.old state → Gives (replied state (certified_piece (drawing_of state).elements statement.now ∷ [])) reply out.old.items out.new.items (IsAt self.new)) }
+        ensures gives { IfOk result (λ reply. (state : State) → IsAt W.shows self.old state → Gives (replied state (certified_piece (drawing_of state).elements statement.now ∷ [])) reply out.old.items out.new.items (IsAt W.shows self.new)) }
         ensures together { OnOk result (IsTogether self.new) }
     {
         let workers = self.workers.count;

@@ -100,7 +100,7 @@ pub(crate) fn write_line(
     out.extend_from_slice(b"\n")
 }
 
-fn word_of_verdict(verdict: &Verdict) -> &'static [u8]
+pub(crate) fn word_of_verdict(verdict: &Verdict) -> &'static [u8]
     ensures { result.now ≡ verdict_word verdict.now }
 {
     match verdict {
@@ -196,7 +196,7 @@ fn find_kind(elements: &[Element], number: u32) -> Option<Kind>
 }
 
 /// The values at which a statement fails; nothing where it has no axes.
-fn write_values(
+pub(crate) fn write_values(
     alloc: Global,
     elements: &[Element],
     values: &Values,

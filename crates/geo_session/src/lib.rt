@@ -11,7 +11,9 @@ mod session;
 mod state;
 mod steps;
 mod texts;
+mod views;
 mod workers;
+mod zeros;
 
 pub use laws::{printed_verdicts_are_true, refused_lines_change_nothing};
 pub use state::{Reply, Session};

@@ -1,32 +1,38 @@
 //! How a session takes a line.
 
-ghost use Rattle.std.specs.Prelude.{◌≡◌, ◌<◌, ◌≤◌, ◌++◌, Ok, IfOk, OnErr, IsErr};
+ghost use Rattle.std.specs.Prelude.{◌≡◌, ◌<◌, ◌≤◌, ◌++◌, List, Ok, IfOk, OnErr, IsErr};
 ghost use Rattle.geo_sketch.specs.declared.changes.Refusal.{Refusal as Reason};
+ghost use Rattle.geo_view.specs.declared.shown.ViewKind.{ViewKind};
 ghost use Rattle.geo_session.specs.Answers.{State, start, answer_of, counted};
 ghost use Rattle.geo_session.specs.Printed.{AreTrue};
 ghost use Rattle.geo_session.specs.Standing.{StandsFor, Gives, IsSpent};
 ghost use Rattle.geo_session.specs.Texts.{refusal_line};
+ghost use Rattle.geo_session.specs.Views.{empty_views};
 
 use crate::desk::Desk;
 use crate::laws::refused_lines_change_nothing;
 use crate::state::{Reply, Session};
+use geo_bracket::verdicts_on_expressions;
 use geo_degree::verdict_of_is_the_verdict;
 use geo_infer::inferences_are_derivations;
 use geo_settle::Gate;
 use geo_sketch::NoMemory;
+use geo_view::Views;
 use std::alloc::Global;
 use std::thread::Threads;
 
-impl Session {
-    /// A session with nothing done. So many workers share the search over each grid.
-    pub fn new(alloc: Global, workers: u64) -> Result<Session, NoMemory>
+impl<W: Views> Session<W> {
+    /// A session with nothing done. The views are told of every change, and are dropped with
+    /// the session, where they were not closed before. So many workers share the search over
+    /// each grid.
+    pub fn new(alloc: Global, views: W, workers: u64) -> Session<W>
         requires { (0 < workers) × (workers ≤ 16) }
-        ensures { IfOk result (λ session. StandsFor session start) }
+        ensures { (kinds : List ViewKind) → W.shows views ≡ empty_views kinds → StandsFor W.shows result (start kinds) }
     {
-        Ok(Session {
-            desk: Desk::new(alloc, workers),
+        Session {
+            desk: Desk::new(alloc, views, workers),
             spent: false,
-        })
+        }
     }
 
     /// Takes the next line of the script, without its line break, and appends the
@@ -42,9 +48,9 @@ impl Session {
         out: &mut Vec<u8>,
         gate: &G,
     ) -> Result<Reply, NoMemory>
-        ensures answer { IfOk result (λ reply. (state : State) → StandsFor self.old state → Gives (answer_of state line.now) reply out.old.items out.new.items (StandsFor self.new)) }
-        ensures refused { (r : Reason) → result ≡ Ok (Reply.Refused r) → (state : State) → StandsFor self.old state → StandsFor self.new (counted state) × (out.new.items ≡ out.old.items ++ refusal_line (counted state).count r) }
-        ensures true_verdicts { (state : State) → StandsFor self.old state → AreTrue (answer_of state line.now).printed }
+        ensures answer { IfOk result (λ reply. (state : State) → StandsFor W.shows self.old state → Gives (answer_of state line.now) reply out.old.items out.new.items (StandsFor W.shows self.new)) }
+        ensures refused { (r : Reason) → result ≡ Ok (Reply.Refused r) → (state : State) → StandsFor W.shows self.old state → StandsFor W.shows self.new (counted state) × (out.new.items ≡ out.old.items ++ refusal_line (counted state).count r) }
+        ensures true_verdicts { (state : State) → StandsFor W.shows self.old state → AreTrue (answer_of state line.now).printed }
         ensures spent { OnErr result (IsSpent self.new) }
         ensures stays_spent { IsSpent self.old → IsErr result }
     {
@@ -54,6 +60,7 @@ impl Session {
         refused_lines_change_nothing();
         verdict_of_is_the_verdict();
         inferences_are_derivations();
+        verdicts_on_expressions();
         // By its contract the sketch is drawn, as the verdicts have to know.
         let _drawn = self.desk.sketch.elements();
         // Spent, unless the line is answered to its end.

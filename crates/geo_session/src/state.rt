@@ -19,8 +19,8 @@ pub enum Reply {
 
 /// The state of one script.
 #[derive(Drop)]
-pub struct Session {
-    pub(crate) desk: Desk,
+pub struct Session<W: Drop> {
+    pub(crate) desk: Desk<W>,
     /// Memory was wanting.
     pub(crate) spent: bool,
     // Until then what the desk holds fits.

@@ -1,13 +1,13 @@
 //! Lines that read as no command, and steps of derivation.
 
-ghost use Rattle.std.specs.Prelude.{◌≡◌, ◌<◌, ◌≤◌, ◌++◌, IfOk, OnOk};
+ghost use Rattle.std.specs.Prelude.{◌≡◌, ◌<◌, ◌≤◌, ◌++◌, Err, IfOk, OnOk};
 ghost use Rattle.geo_sketch.specs.Sketches.{ArePosed, IsPosed};
 ghost use Rattle.geo_parse.specs.Words.{words};
 ghost use Rattle.geo_infer.specs.Derivations.{are_known, conclusion_by, inference_of, is_known, is_proved, judged};
 ghost use Rattle.geo_infer.specs.Shapes.{IsPosedShape, shape_of};
 ghost use Rattle.geo_infer.specs.Words.{begins_with};
 ghost use Rattle.geo_ledger.specs.Ledgers.{AreKept};
-ghost use Rattle.geo_session.specs.Answers.{State, answer_beside, concluded, drawing_of};
+ghost use Rattle.geo_session.specs.Answers.{State, answer_beside, answer_by, concluded, drawing_of, is_no_command};
 ghost use Rattle.geo_session.specs.LedgerTexts.{inferred_line};
 ghost use Rattle.geo_session.specs.Standing.{IsAt, Gives};
 ghost use Rattle.geo_session.specs.Together.{IsTogether};
@@ -20,12 +20,34 @@ use geo_ledger::Ledger;
 use geo_parse::split_words;
 use geo_settle::Gate;
 use geo_sketch::{Element, NoMemory, Refusal, Sketch, Statement, Verdict};
+use geo_view::Views;
 use std::alloc::{AllocError, Global};
 use std::thread::Threads;
 
-impl Desk {
+impl<W: Views> Desk<W> {
+    /// Answers a line that the grammar refuses.
+    pub(crate) fn answer_unread<R: Threads + Sync, G: Gate + Sync>(
+        &mut self,
+        rt: &R,
+        alloc: Global,
+        line: &[u8],
+        refusal: Refusal,
+        out: &mut Vec<u8>,
+        gate: &G,
+    ) -> Result<Reply, NoMemory>
+        requires { IsTogether self.old }
+        ensures gives { IfOk result (λ reply. (state : State) → IsAt W.shows self.old state → Gives (answer_by state line.now (Err refusal)) reply out.old.items out.new.items (IsAt W.shows self.new)) }
+        ensures together { OnOk result (IsTogether self.new) }
+    {
+        if is_no_command(refusal) {
+            self.answer_beside(rt, alloc, line, out, gate)
+        } else {
+            self.refuse(alloc, refusal, out)
+        }
+    }
+
     /// Answers a line that reads as no command, by its first word.
-    pub(crate) fn answer_beside<R: Threads + Sync, G: Gate + Sync>(
+    fn answer_beside<R: Threads + Sync, G: Gate + Sync>(
         &mut self,
         rt: &R,
         alloc: Global,
@@ -34,11 +56,13 @@ impl Desk {
         gate: &G,
     ) -> Result<Reply, NoMemory>
         requires { IsTogether self.old }
-        ensures gives { IfOk result (λ reply. (state : State) → IsAt self.old state → Gives (answer_beside state line.now) reply out.old.items out.new.items (IsAt self.new)) }
+        ensures gives { IfOk result (λ reply. (state : State) → IsAt W.shows self.old state → Gives (answer_beside state line.now) reply out.old.items out.new.items (IsAt W.shows self.new)) }
         ensures together { OnOk result (IsTogether self.new) }
     {
         if begins_with(line, b"infer") {
             self.infer(rt, alloc, line, out, gate)
+        } else if begins_with(line, b"zero") {
+            self.zero(rt, alloc, line, out, gate)
         } else {
             self.refuse(alloc, Refusal::Command, out)
         }
@@ -54,7 +78,7 @@ impl Desk {
         gate: &G,
     ) -> Result<Reply, NoMemory>
         requires { IsTogether self.old }
-        ensures gives { IfOk result (λ reply. (state : State) → IsAt self.old state → Gives (concluded state (inference_of (drawing_of state).elements line.now)) reply out.old.items out.new.items (IsAt self.new)) }
+        ensures gives { IfOk result (λ reply. (state : State) → IsAt W.shows self.old state → Gives (concluded state (inference_of (drawing_of state).elements line.now)) reply out.old.items out.new.items (IsAt W.shows self.new)) }
         ensures together { OnOk result (IsTogether self.new) }
     {
         match read_step(line) {
@@ -72,7 +96,7 @@ impl Desk {
         gate: &G,
     ) -> Result<Reply, NoMemory>
         requires { IsTogether self.old }
-        ensures gives { IfOk result (λ reply. (state : State) → IsAt self.old state → Gives (concluded state (conclusion_by (drawing_of state).elements (shape_of (drawing_of state).elements said.now))) reply out.old.items out.new.items (IsAt self.new)) }
+        ensures gives { IfOk result (λ reply. (state : State) → IsAt W.shows self.old state → Gives (concluded state (conclusion_by (drawing_of state).elements (shape_of (drawing_of state).elements said.now))) reply out.old.items out.new.items (IsAt W.shows self.new)) }
         ensures together { OnOk result (IsTogether self.new) }
     {
         match shape_of(&self.sketch, said) {
@@ -93,7 +117,7 @@ impl Desk {
     ) -> Result<Reply, NoMemory>
         requires posed { IsPosedShape self.old.sketch.elements shape.now }
         requires together { IsTogether self.old }
-        ensures gives { IfOk result (λ reply. (state : State) → IsAt self.old state → Gives (concluded state (judged (drawing_of state).elements shape.now)) reply out.old.items out.new.items (IsAt self.new)) }
+        ensures gives { IfOk result (λ reply. (state : State) → IsAt W.shows self.old state → Gives (concluded state (judged (drawing_of state).elements shape.now)) reply out.old.items out.new.items (IsAt W.shows self.new)) }
         ensures together { OnOk result (IsTogether self.new) }
     {
         let workers = self.workers.count;
@@ -117,6 +141,13 @@ impl Desk {
             Err(_) => Err(NoMemory),
         }
     }
+}
+
+/// Whether it says that the line reads as no command.
+fn is_no_command(refusal: Refusal) -> bool
+    ensures { result ≡ is_no_command refusal }
+{
+    matches!(refusal, Refusal::Command)
 }
 
 /// Whether the first word of the line is this one.

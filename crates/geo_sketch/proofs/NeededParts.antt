@@ -1,4 +1,5 @@
 -- The elements of a construction that a statement needs, by themselves.
+-- lemmas for other crates
 use Rattle.std.proofs.Common.{◌≡◌, sym, subst, ℕ, ℤ, true, List}
 use Rattle.std.specs.Prelude.{◌↔◌}
 use Rattle.geo_sketch.specs.declared.elements.Element.{Element}

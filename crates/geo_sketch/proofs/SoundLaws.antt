@@ -1,4 +1,5 @@
 -- Which lists make a sketch is computed, and the elements of a sketch make one.
+-- lemmas for other crates
 use Rattle.std.proofs.Common.{◌≡◌, sym, ap, subst, refl, ℕ, ◌++◌, if◌then◌else◌, Bool, true, false, Option, None, Some, List, [], ◌∷◌, map, arith, append_assoc, append-nil}
 use Rattle.std.specs.Prelude.{◌&&◌, SomeIff}
 use Rattle.std.specs.Bool.{Decides}

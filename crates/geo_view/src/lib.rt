@@ -1,6 +1,7 @@
 //! Boxed views of a sketch, and pictures.
 #![tactic(auto)]
 
+mod all_views;
 mod entries;
 mod following;
 mod laws;
@@ -11,6 +12,7 @@ mod view;
 mod views;
 mod wall;
 
+pub use all_views::{NoViews, Views};
 pub use following::{changes_of, entries_of};
 pub use laws::views_follow;
 pub use picture::write_picture;

@@ -7,7 +7,7 @@ use Rattle.geo_app.proofs.carrying.carry_out.Given as goal
 
 abbrev pub invariant-lines : goal.invariant-lines
 invariant-lines g l = record {
-  progress : (course : Course) → Goes l.fn.replies course → course.meanwhile [] ≡ [] → Progress course l.fn.limit l.lines (Goes l.replies) (g.S.Source.left l.fn.source) (g.S.Source.left l.source) (g.K.Sink.held l.fn.sink) (g.K.Sink.held l.sink);
+  progress : (course : Course) → Goes g.W.Views.shows l.fn.replies course → course.meanwhile [] ≡ [] → Progress course l.fn.limit l.lines (Goes g.W.Views.shows l.replies) (g.S.Source.left l.fn.source) (g.S.Source.left l.source) (g.K.Sink.held l.fn.sink) (g.K.Sink.held l.sink);
   few : l.lines.taken ≤ 2 ^ 24;
   end : IsRightOnEnd l.lines (g.S.Source.left l.source);
   reads : g.S.Source.fault_count l.fn.source ≤ g.S.Source.fault_count l.source;

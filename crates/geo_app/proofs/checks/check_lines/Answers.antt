@@ -1,10 +1,8 @@
-use Rattle.std.proofs.Common.{rules, arith, ◌≡◌, ◌^◌, ◌≤◌, ◌<◌, ◌+◌, [], ◌∷◌, length, true, false, refl, ap}
+use Rattle.std.proofs.Common.{rules, arith, ◌≡◌, ◌^◌, ◌≤◌, [], ap}
 use Rattle.std.specs.Prelude.{Err}
-use Rattle.std.specs.Io.KnownBytes.{IsAtEnd}
 use Rattle.geo_io.specs.Taking.{first_taking, lines_left, GivesLine, GivesNone}
-use Rattle.geo_app.specs.Courses.{Course}
 use Rattle.geo_app.specs.Checking.{GoesOn}
-use Rattle.geo_app.proofs.Progress.{Progress, begun, line_done}
+use Rattle.geo_app.proofs.Progress.{begun, line_done}
 use Rattle.geo_app.proofs.Carried.{none_carried, source_ended, sink_ended, input_over, same_end}
 use Rattle.geo_app.proofs.checks.check_lines.Goals as goal
 

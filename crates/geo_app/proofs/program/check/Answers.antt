@@ -5,10 +5,10 @@ use Rattle.geo_app.proofs.CertificateCourses.{certificates_checked}
 use Rattle.geo_app.proofs.program.check.Goals as goal
 
 pub returns-clause-headline : goal.returns-clause-headline
-returns-clause-headline g c = λ workers.
+returns-clause-headline g c = λ kinds workers.
     let carried = c.check_lines.ensures.carried (check_course false) c.new-checks.ensures refl in
     let alike = c.long_lines_are_answered_alike.ensures in (
       carried.0,
       carried.1,
-      certificates_checked workers c.check_lines.result carried.0 (g.S.Source.left c.check_lines.new.source) (g.K.Sink.held c.args.sink.now) (g.K.Sink.held c.check_lines.new.sink) carried.2 alike.text alike.invalid (c.answers_are_right.ensures.all (lines_of carried.0)),
+      certificates_checked kinds workers c.check_lines.result carried.0 (g.S.Source.left c.check_lines.new.source) (g.K.Sink.held c.args.sink.now) (g.K.Sink.held c.check_lines.new.sink) carried.2 alike.text alike.invalid (c.answers_are_right.ensures.all (lines_of carried.0)),
     )

@@ -6,11 +6,11 @@ use Rattle.geo_app.proofs.BatchCourses.{batch_carried, silent}
 use Rattle.geo_app.proofs.program.run_batch.Goals as goal
 
 pub returns-clause-headline : goal.returns-clause-headline
-returns-clause-headline g c =
+returns-clause-headline g c = λ kinds.
     let n = c.args.workers in
     let carried = c.carry_out_jobs.ensures.carried (batch_course n nothing_gathered false) c.new-batch.ensures.goes (silent n false c.requires.0) in
     let alike = c.long_jobs_are_answered_alike.ensures in (
       carried.0,
       carried.1,
-      batch_carried n c.carry_out_jobs.result carried.0 (g.S.Source.left c.carry_out_jobs.new.source) (g.K.Sink.held c.args.sink.now) (g.K.Sink.held c.carry_out_jobs.new.sink) carried.2 alike.printed alike.refused alike.meanwhile (c.verdicts_of_jobs_are_true.ensures 1 (jobs_of (lines_of carried.0))),
+      batch_carried kinds n c.carry_out_jobs.result carried.0 (g.S.Source.left c.carry_out_jobs.new.source) (g.K.Sink.held c.args.sink.now) (g.K.Sink.held c.carry_out_jobs.new.sink) carried.2 alike.printed alike.refused alike.meanwhile (c.verdicts_of_jobs_are_true.ensures 1 (jobs_of (lines_of carried.0))),
     )

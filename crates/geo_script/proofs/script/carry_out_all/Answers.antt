@@ -1,13 +1,12 @@
-use Rattle.std.proofs.Common.{rules, ◌≡◌, ◌||◌, ℕ, List, ◌<◌, None, Some, length, arith}
+use Rattle.std.proofs.Common.{rules, ◌≡◌, ◌||◌, ◌<◌, None, Some, length, arith}
 use Rattle.std.specs.Prelude.{slice_get}
 use Rattle.geo_session.specs.Answers.{is_refused}
 use Rattle.geo_session.specs.Standing.{StandsFor}
-use Rattle.geo_script.specs.Places.{state_after}
 use Rattle.geo_script.proofs.PlaceLaws.{found_within, none_carried, one_carried, one_longer}
 use Rattle.geo_script.proofs.script.carry_out_all.Goals as goal
 
 pub loop-k-init : goal.loop-k-init
-loop-k-init g c = λ state stands. none_carried state c.args.out.now.items (StandsFor c.args.session.now) stands
+loop-k-init g c = λ state stands. none_carried state c.args.out.now.items (StandsFor g.W.Views.shows c.args.session.now) stands
 
 pub unreachable-requires : goal.unreachable-requires
 unreachable-requires g c =

@@ -1,5 +1,5 @@
-use Rattle.std.proofs.Common.{rules, ◌≡◌, ◌||◌, ◌++◌, ◌∷◌, [], map, if◌then◌else◌}
-use Rattle.geo_app.specs.Sheets.{done_sheet, has_line, some_refused}
+use Rattle.std.proofs.Common.{rules, ◌≡◌, ◌||◌, map}
+use Rattle.geo_app.specs.Sheets.{done_sheet, some_refused}
 use Rattle.geo_app.proofs.BatchCourses.{rest_cut, rest_written}
 use Rattle.geo_app.proofs.batch.Batch.end.Goals as goal
 

@@ -1,4 +1,4 @@
-use Rattle.std.proofs.Common.{rules, arith, ◌≡◌, ◌∙◌, ap, ◌||◌, ◌++◌, ◌∷◌, ◌<◌, ◌+◌, [], true, false, map, length}
+use Rattle.std.proofs.Common.{rules, arith, ◌≡◌, ◌∙◌, ap, ◌||◌, ◌∷◌, ◌<◌, ◌+◌, [], true, false, map, length}
 use Rattle.std.proofs.lemmas.List.{length-append}
 use Rattle.geo_app.specs.Batches.{ends_job}
 use Rattle.geo_app.specs.Sheets.{done_sheet, some_refused}

@@ -1,5 +1,4 @@
-use Rattle.std.proofs.Common.{◌≡◌}
-use Rattle.geo_app.proofs.CertificateCourses.{line_checked, line_cut}
+use Rattle.geo_app.proofs.CertificateCourses.{line_cut}
 use Rattle.geo_app.proofs.checks.Checks.take.Goals as goal
 
 pub returns-in-Err-clause-front : goal.returns-in-Err-clause-front

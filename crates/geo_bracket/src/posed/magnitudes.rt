@@ -1,0 +1,46 @@
+//! Magnitudes of axes, as heights are asked for them.
+
+ghost use Rattle.std.specs.Prelude.{◌≡◌, ◌≤◌, length, map, take};
+ghost use Rattle.geo_sketch.specs.Sketches.{parameter_limit};
+ghost use Rattle.geo_degree.specs.Grids.{axis_magnitude};
+ghost use Rattle.geo_grid.specs.Pairs.{paired};
+
+use geo_degree::Axis;
+use geo_sketch::PARAMETER_LIMIT;
+
+/// The parameter of each axis with a magnitude, and behind them what does not matter.
+pub(crate) type Pairs = [(u32, u64); PARAMETER_LIMIT];
+
+/// The pairs for a magnitude of each axis.
+pub(crate) fn pair_up(axes: &[Axis], magnitudes: &[u64]) -> Pairs
+    requires count { length magnitudes.now ≡ length axes.now }
+    requires few { length axes.now ≤ parameter_limit }
+    ensures pairs { take (length axes.now) result ≡ paired axes.now magnitudes.now }
+    ensures room { length result ≡ parameter_limit }
+{
+    let mut pairs = [(0, 0); PARAMETER_LIMIT];
+    for i in 0..axes.len() {
+        pairs[i] = (axes[i].param, magnitudes[i]);
+    }
+    pairs
+}
+
+/// The pairs for the magnitudes on the grid of the axes.
+pub(crate) fn pair_on_grid(axes: &[Axis]) -> Pairs
+    requires { length axes.now ≤ parameter_limit }
+    ensures pairs { take (length axes.now) result ≡ paired axes.now (map axis_magnitude axes.now) }
+    ensures room { length result ≡ parameter_limit }
+{
+    let mut pairs = [(0, 0); PARAMETER_LIMIT];
+    for i in 0..axes.len() {
+        pairs[i] = (axes[i].param, magnitude_of(&axes[i]));
+    }
+    pairs
+}
+
+/// The greatest absolute value on the grid of an axis.
+fn magnitude_of(axis: &Axis) -> u64
+    ensures { result ≡ axis_magnitude axis.now }
+{
+    axis.degree / 2 + axis.degree % 2
+}
