@@ -1,10 +1,10 @@
 -- The condition of a statement speaks of the triples of the elements that it names, and its parts are the statement's.
-use Rattle.std.proofs.Common.{◌≡◌, ◌∙◌, sym, ap, subst, ℕ, ◌<◌, ◌≤◌, Bool, List, [], ◌∷◌, length, get_or, map, ℤ, pos, unsigned_abs, le_trans, arith}
+use Rattle.std.proofs.Common.{◌≡◌, ◌∙◌, ap, subst, ℕ, ◌<◌, ◌≤◌, Bool, List, [], ◌∷◌, length, get_or, map, ℤ, pos, unsigned_abs, le_trans, arith}
 use Rattle.std.specs.Prelude.{All, Contains}
 use Rattle.std.proofs.Math.Nat.{max-le}
 use Rattle.std.proofs.lemmas.List.{length-map}
 use Rattle.geo_triple.specs.declared.Triple.{Triple}
-use Rattle.geo_triple.specs.Sums.{cross_sums, determinant_sum, dot_sum, largest_of, sizes_of}
+use Rattle.geo_triple.specs.Sums.{largest_of, sizes_of}
 use Rattle.geo_triple.specs.Triple.{cross_of, determinant_of, dot_of}
 use Rattle.geo_sketch.specs.declared.elements.Element.{Element}
 use Rattle.geo_sketch.specs.declared.statements.Statement.{Statement}
@@ -16,9 +16,9 @@ use Rattle.geo_sketch.specs.Sketches.{Drawing, IsDrawn}
 use Rattle.geo_sketch.specs.Statements.{coordinates, parts_at}
 use Rattle.geo_sketch.specs.Triples.{triple_at}
 use Rattle.geo_sketch.proofs.SketchLaws.{constructed}
-use Rattle.geo_sketch.proofs.StatementLaws.{at_all, at_stated}
-use Rattle.geo_height.specs.Bounds.{statement_sum, IsWithin}
-use Rattle.geo_height.proofs.HeightLaws.{fits, named_in_statement, statement_sum_below}
+use Rattle.geo_sketch.proofs.StatementLaws.{at_stated}
+use Rattle.geo_height.specs.Bounds.{statement_sum}
+use Rattle.geo_height.proofs.HeightLaws.{named_in_statement, statement_sum_below}
 use Rattle.geo_degree.specs.declared.grids.Axis.{Axis}
 use Rattle.geo_degree.specs.Grids.{at_axes, axes_of}
 use Rattle.geo_degree.specs.Verdicts.{statement_height_at}
@@ -29,7 +29,7 @@ use Rattle.geo_grid.specs.Codes.{Asks, IsPlan, condition_by, condition_parts, co
 use Rattle.geo_grid.specs.Nodes.{triple_there}
 use Rattle.geo_grid.specs.Orders.{order_of}
 use Rattle.geo_grid.specs.Plans.{Planned, planned_for}
-use Rattle.geo_grid.specs.Works.{AreLow, HasPlace, planned_triple, triples_of, StandsFor}
+use Rattle.geo_grid.specs.Works.{AreLow, HasPlace, planned_triple, StandsFor}
 use Rattle.geo_grid.proofs.NamedLaws.{from_list, to_list}
 use Rattle.geo_grid.proofs.PlanLaws.{no_element, order_has_named, size_within, triple_in_place, values_within}
 

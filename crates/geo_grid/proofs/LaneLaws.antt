@@ -1,5 +1,5 @@
 -- Values on the grid of the axes are no larger than its magnitudes, so heights at the grid bound what is computed there.
-use Rattle.std.proofs.Common.{ℕ, zero, suc, ◌≡◌, ◌∙◌, sym, ap, inl, inr, ◌<◌, ◌≤◌, List, [], ◌∷◌, length, get_or, map, ℤ, pos, unsigned_abs, of_z, le_trans, arith}
+use Rattle.std.proofs.Common.{ℕ, suc, ◌≡◌, ap, inl, inr, ◌<◌, ◌≤◌, List, [], ◌∷◌, length, get_or, map, ℤ, pos, unsigned_abs, le_trans, arith}
 use Rattle.std.specs.Prelude.{◌⊎◌}
 use Rattle.std.specs.List.{AllZip}
 use Rattle.std.proofs.lemmas.Bool.{cases_lt}

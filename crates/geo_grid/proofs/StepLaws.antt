@@ -1,5 +1,5 @@
 -- A node makes the triple of its element, and no number on the way is above what bounds its sums.
-use Rattle.std.proofs.Common.{◌≡◌, ap, refl, ℕ, suc, ◌<◌, ◌≤◌, List, [], ◌∷◌, length, get_or, map, ℤ, pos, unsigned_abs, arith}
+use Rattle.std.proofs.Common.{◌≡◌, refl, ℕ, suc, ◌<◌, ◌≤◌, List, [], ◌∷◌, length, get_or, map, ℤ, pos, unsigned_abs, arith}
 use Rattle.std.specs.Prelude.{◌==◌, if◌then◌else◌}
 use Rattle.std.proofs.Math.Nat.{max-le}
 use Rattle.std.proofs.lemmas.Bool.{cond_both}

@@ -3,6 +3,7 @@
 
 mod posing;
 mod search;
+mod spacing;
 
 pub use geo_degree::{Axis, Block};
 pub use posing::{Plan, Posed};

@@ -1,4 +1,5 @@
 pub mod AxisValues
 pub mod FailLaws
 pub mod PartLaws
+pub mod Places
 pub mod SweepLaws

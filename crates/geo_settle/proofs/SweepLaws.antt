@@ -1,5 +1,5 @@
 -- Entries of a worker that sweeps, and seats of workers that have swept.
-use Rattle.std.proofs.Common.{◌≡◌, ◌<◌, ◌≤◌, ◌+◌, ◌-◌, ◌++◌, Bool, true, None, if◌then◌else◌, lt-ltb, ◌∙◌, sym, ap, subst, refl, ℕ, List, [], ◌∷◌, length, max, take, Option, Some, option_to_list, All, arith}
+use Rattle.std.proofs.Common.{◌≡◌, ◌<◌, ◌≤◌, ◌+◌, ◌-◌, ◌++◌, Bool, None, if◌then◌else◌, lt-ltb, ◌∙◌, sym, ap, subst, ℕ, List, [], ◌∷◌, length, max, take, Some, option_to_list, All, arith}
 use Rattle.std.proofs.lemmas.List.Elements.{All-append, All-head, All-nil, All-pop, All-push, All-tail}
 use lib.Seq.{take-append_seam}
 use Rattle.geo_board.specs.declared.seat.Board.{Board}

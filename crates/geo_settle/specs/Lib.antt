@@ -1,3 +1,4 @@
 pub mod Fails
 pub mod Findings
+pub mod Places
 pub mod Rounds

@@ -8,13 +8,15 @@ ghost use Rattle.geo_settle.specs.Rounds.{HasSwept, IsNewWorkerOf, IsWorkerOf};
 
 use crate::gate::Gate;
 use crate::round::Round;
+use crate::threads::in_threads;
 use crate::worker::{CHUNK, Room, Worker};
+use crossbeam_utils::CachePadded;
 use geo_board::Board;
 use geo_grid::{Cursor, Form, Grid};
 use geo_sketch::NoMemory;
 use std::alloc::Global;
 use std::marker::Model;
-use std::thread::{self, Threads};
+use std::thread::Threads;
 
 /// What a search over a grid found.
 #[derive(Clone, Copy, PartialEq, Eq, Debug)]
@@ -73,6 +75,7 @@ impl<'a, F: Form + Sync> Bench<'a, F> {
                 return Err(NoMemory);
             };
             let room = Room { seats };
+            let cursor = CachePadded::new(cursor);
             let Ok(()) = list.push(Worker { seat, cursor, room }) else {
                 return Err(NoMemory);
             };
@@ -92,8 +95,8 @@ impl<'a, F: Form + Sync> Bench<'a, F> {
         (self.round, self.workers)
     }
 
-    /// Searches the whole grid: each worker sweeps in a thread of its own, and one worker in
-    /// this thread. The gate is told of each chunk once, and once more by each worker. It
+    /// Searches the whole grid: each worker sweeps in a thread of its own, and one alone in this
+    /// thread. The gate is told of each chunk once, and once more by each worker. It
     /// takes no memory, and cannot be refused: where no thread can be made the workers sweep
     /// one after the other.
     pub fn run<R: Threads + Sync, G: Gate + Sync>(self, rt: &R, gate: &G) -> First
@@ -106,24 +109,21 @@ impl<'a, F: Form + Sync> Bench<'a, F> {
     }
 }
 
-/// Lets each worker sweep in a thread of its own.
+/// Lets each worker sweep in a thread of its own, and one alone in this thread.
 fn sweep_all<'a, F: Form + Sync, R: Threads + Sync, G: Gate + Sync>(
     rt: &R,
     round: &Round<'a, F>,
     workers: &mut [Worker<'a, F>],
     gate: &G,
 )
-    requires some { 0 < length workers.old }
     requires new { All (IsNewWorkerOf round.now) workers.old }
     ensures count { length workers.new ≡ length workers.old }
     ensures of_round { All (IsWorkerOf round.now) workers.new }
     ensures swept { All (HasSwept (F.question round.now.0)) workers.new }
 {
-    let count = workers.len();
-    thread::for_each_mut(
+    in_threads(
         rt,
         workers,
-        count,
         &|_, worker|
             requires { IsSync F.row × IsSync G.row × IsNewWorkerOf round.now worker.old }
             ensures of_round { IsWorkerOf round.entry.now worker.new }

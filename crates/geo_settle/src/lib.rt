@@ -7,6 +7,7 @@ mod parts;
 mod round;
 mod samples;
 mod settling;
+mod threads;
 mod values;
 mod worker;
 

@@ -1,6 +1,7 @@
 //! A worker of a round: what one thread does.
 
 ghost use Rattle.std.specs.Prelude.{◌≡◌, ◌<◌, ◌≤◌, ℕ, [], Some, true, false, MatchOption, vec_capacity};
+ghost use Rattle.crossbeam_utils.specs.Padded.{padded_value};
 ghost use Rattle.geo_board.specs.BoardSeats.{number_of, total_of, worker_of};
 ghost use Rattle.geo_board.specs.Machine.{entry, worker_after_look};
 ghost use Rattle.geo_degree.specs.Grids.{grid_size};
@@ -10,6 +11,7 @@ ghost use Rattle.geo_settle.specs.Rounds.{HasSwept, IsIdle, IsWorkerOf};
 
 use crate::gate::Gate;
 use crate::round::Round;
+use crossbeam_utils::CachePadded;
 use geo_board::BoardSeat;
 use geo_grid::{Cursor, Form};
 use geo_triple::Steps;
@@ -31,20 +33,22 @@ pub(crate) struct Room {
 }
 
 /// A worker of a round. It has a seat on the board, a cursor of its own, and room for all
-/// seats, so that the round is closed without memory. Contracts see the form and the seat.
+/// seats, so that the round is closed without memory. Its cursor changes at each point and is
+/// padded, since workers lie side by side in a list. Contracts see the form and the seat.
 #[derive(Drop)]
 pub struct Worker<'a, F: Form> {
     pub(crate) seat: BoardSeat,
-    pub(crate) cursor: Cursor<'a, F>,
+    pub(crate) cursor: CachePadded<Cursor<'a, F>>,
     pub(crate) room: Room,
 }
 
 impl<'a, F: Form> Model for Worker<'a, F> {
+    ghost use Rattle.crossbeam_utils.specs.Padded.{padded_value};
     ghost use Rattle.geo_board.specs.declared.seat.BoardSeat.{BoardSeat};
 
     ghost Value = { F × BoardSeat };
 
-    ghost view = { λ w. (w.cursor.0, w.seat) };
+    ghost view = { λ w. ((padded_value w.cursor).0, w.seat) };
 }
 
 impl<'a, F: Form + Sync> Worker<'a, F> {

@@ -20,6 +20,7 @@ use crate::posing::node::{Node, evaluate_node};
 use crate::posing::order::find_order;
 use crate::posing::shortness::are_short_elements;
 use crate::search::Scratch;
+use crate::spacing::spaced;
 use geo_degree::Axis;
 use geo_sketch::{Element, NoMemory, Sketch, place_of};
 use geo_triple::{Steps, Triple};
@@ -166,16 +167,8 @@ impl<'a> Plan<'a> {
     pub fn scratch(&self, alloc: Global) -> Result<Scratch, NoMemory>
         ensures { IfOk result (IsFresh self.now) }
     {
-        let mut triples = Vec::new(alloc);
-        for _node in &self.nodes {
-            if triples.push(Triple { a: 0, b: 0, c: 0 }).is_err() {
-                return Err(NoMemory);
-            }
-        }
-        let mut numbers = Vec::new(alloc);
-        if numbers.push(0).is_err() {
-            return Err(NoMemory);
-        }
+        let triples = spaced(alloc, Triple { a: 0, b: 0, c: 0 }, self.nodes.len())?;
+        let numbers = spaced(alloc, FRESH, 1)?;
         Ok(Scratch { triples, numbers })
     }
 

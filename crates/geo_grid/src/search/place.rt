@@ -9,6 +9,7 @@ ghost use Rattle.geo_grid.specs.Values.{first_change};
 use super::digits::{write_digits, write_values};
 use super::grid::Grid;
 use super::wheels::carry;
+use crate::spacing::spaced;
 use geo_sketch::NoMemory;
 use std::alloc::Global;
 use std::marker::Model;
@@ -42,18 +43,14 @@ impl<'a> Place<'a> {
         ensures { IfOk result (λ place. place ≡ (grid.now, 0)) }
     {
         let count = grid.wheels().len();
-        let Ok(digits) = vec![in alloc; 0; count] else {
-            return Err(NoMemory);
-        };
-        match vec![in alloc; 0; count] {
-            Ok(values) => Ok(Place {
-                grid,
-                digits,
-                values,
-                index: 0,
-            }),
-            Err(_) => Err(NoMemory),
-        }
+        let digits = spaced(alloc, 0, count)?;
+        let values = spaced(alloc, 0, count)?;
+        Ok(Place {
+            grid,
+            digits,
+            values,
+            index: 0,
+        })
     }
 
     /// The values of the axes here.

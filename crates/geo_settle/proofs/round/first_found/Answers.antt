@@ -1,4 +1,4 @@
-use Rattle.geo_settle.proofs.FailLaws.{Finds, finds_least, finds_nothing}
+use Rattle.geo_settle.proofs.FailLaws.{finds_least, finds_nothing}
 use Rattle.geo_settle.proofs.round.first_found.Goals as goal
 
 pub returns-then-least-eq18446744073709551615 : goal.returns-then-least-eq18446744073709551615

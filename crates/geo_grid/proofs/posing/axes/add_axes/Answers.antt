@@ -1,1 +1,0 @@
-use Rattle.geo_grid.proofs.posing.axes.add_axes.Goals as goal

@@ -1,6 +1,4 @@
-use Rattle.std.proofs.Common.{rules, ◌≡◌, ◌<◌, ◌++◌, ◌∙◌, ap, sym, subst, length, get_or}
-use Rattle.geo_sketch.specs.declared.elements.Element.{Element}
-use Rattle.geo_sketch.specs.declared.elements.Def.TheVariants.{Free}
+use Rattle.std.proofs.Common.{rules, ◌≡◌, ◌<◌, ◌++◌, ◌∙◌, ap, sym, length, get_or}
 use Rattle.geo_degree.specs.Blocks.{own_blocks}
 use Rattle.geo_degree.specs.Degrees.{statement_degree}
 use Rattle.geo_degree.specs.Grids.{axes_among, own_parameters}

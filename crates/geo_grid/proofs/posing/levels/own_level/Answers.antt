@@ -1,5 +1,4 @@
-use Rattle.std.proofs.Common.{◌∙◌, ◌≡◌, ◌≤◌, ◌+◌, ◌-◌, get_or, sym, arith}
-use Rattle.geo_sketch.specs.Assignments.{element_of_parameter}
+use Rattle.std.proofs.Common.{◌∙◌, ◌≤◌, ◌+◌, ◌-◌, sym, arith}
 use Rattle.geo_degree.specs.Grids.{axis}
 use Rattle.geo_grid.specs.Orders.{own_level}
 use Rattle.geo_grid.proofs.Levels.{own_below, own_step, own_within}

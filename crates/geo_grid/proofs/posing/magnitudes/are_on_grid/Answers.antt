@@ -1,8 +1,7 @@
-use Rattle.std.proofs.Common.{◌≡◌, ◌∙◌, ◌≤◌, inl, inr, ap, get_or, pos, refl, sym, unsigned_abs, FitsSigned, to_z, of_z, rules, arith}
+use Rattle.std.proofs.Common.{◌∙◌, inl, inr, ap, get_or, pos, refl, unsigned_abs, FitsSigned, rules, arith}
 use Rattle.std.specs.Int.{w64}
 use Rattle.std.proofs.lemmas.Bool.{cases_eq}
 use Rattle.std.proofs.lemmas.Int.{to_z-of_z}
-use Rattle.geo_degree.specs.Grids.{axis, axis_magnitude}
 use Rattle.geo_grid.proofs.posing.magnitudes.are_on_grid.Goals as goal
 
 pub loop-k-preserved : goal.loop-k-preserved

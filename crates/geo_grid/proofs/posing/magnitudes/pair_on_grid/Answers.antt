@@ -1,4 +1,4 @@
-use Rattle.std.proofs.Common.{◌≡◌, ◌∙◌, ◌<◌, ℕ, ap, length, get_or, map, sym, arith}
+use Rattle.std.proofs.Common.{◌∙◌, ℕ, ap, get_or, map, sym, arith}
 use Rattle.std.proofs.lemmas.List.{get_or-map, length-map}
 use Rattle.geo_degree.specs.Grids.{axis, axis_magnitude}
 use Rattle.geo_grid.proofs.PairLaws.{pairs_are}

@@ -1,4 +1,4 @@
-use Rattle.std.proofs.Common.{◌≡◌, ◌+◌, ◌-◌, ◌<◌, length, subst, arith}
+use Rattle.std.proofs.Common.{◌≡◌, ◌+◌, ◌-◌, length, subst, arith}
 use Rattle.geo_grid.specs.Flags.{AreFlagged}
 use Rattle.geo_grid.proofs.FlagLaws.{flags_pass, flags_spread, flags_tell, names_before}
 use Rattle.geo_grid.proofs.PlanLaws.{no_element}

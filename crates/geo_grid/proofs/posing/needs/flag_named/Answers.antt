@@ -1,6 +1,5 @@
 use Rattle.geo_sketch.proofs.TableLaws.{place_within}
-use Rattle.std.proofs.Common.{◌<◌, get_or, length, arith}
-use Rattle.geo_sketch.specs.Tables.{place}
+use Rattle.std.proofs.Common.{get_or, arith}
 use Rattle.geo_grid.proofs.FlagLaws.{flagged_on, none_flagged}
 use Rattle.geo_grid.proofs.posing.needs.flag_named.Goals as goal
 

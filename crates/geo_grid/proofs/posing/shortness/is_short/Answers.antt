@@ -1,4 +1,4 @@
-use Rattle.std.proofs.Common.{◌≡◌, ◌∙◌, sym, ap, leb, rules, arith}
+use Rattle.std.proofs.Common.{◌∙◌, sym, arith}
 use Rattle.std.proofs.lemmas.Bool.Decides.{nat_tests}
 use Rattle.geo_grid.proofs.PairLaws.{within_none, within_some}
 use Rattle.geo_grid.proofs.posing.shortness.is_short.Goals as goal

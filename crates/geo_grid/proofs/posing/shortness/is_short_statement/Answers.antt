@@ -1,4 +1,4 @@
-use Rattle.std.proofs.Common.{◌≡◌, ◌∙◌, ap, map, sym, arith}
+use Rattle.std.proofs.Common.{◌∙◌, ap, map, sym, arith}
 use Rattle.std.proofs.lemmas.List.{length-take-le}
 use Rattle.geo_height.specs.Capped.{within_limit}
 use Rattle.geo_degree.specs.Grids.{axis_magnitude}

@@ -1,9 +1,7 @@
-use Rattle.std.proofs.Common.{◌≡◌, ◌+◌, ◌∙◌, ap, sym, subst, Some, ℕ, Bool, List, length, vec_len, All, arith}
-use Rattle.std.specs.List.{range_with_len}
+use Rattle.std.proofs.Common.{◌≡◌, ◌∙◌, ap, sym, subst, Some, ℕ, Bool, List, length, All, arith}
 use Rattle.std.proofs.lemmas.List.{length-map}
 use Rattle.std.proofs.lemmas.List.FromFn.{length-range_with_len}
 use Rattle.std.proofs.lemmas.List.Elements.{All-nil, All-pop, All-push}
-use Rattle.geo_board.specs.declared.seat.BoardSeat.{BoardSeat}
 use Rattle.geo_board.specs.BoardSeats.{IsInitialSeatOf, number_of}
 use Rattle.geo_settle.specs.Rounds.{IsNewWorkerOf}
 use Rattle.geo_settle.proofs.bench.Bench.prepare.Goals as goal
@@ -27,5 +25,5 @@ loop-seat-preserved g c =
     record {
       count = omega (arith, i.count, c.in-Some.ensures.len, c.in-Ok-push.ensures.len);
       seats = popped.0;
-      list = subst (All (IsNewWorkerOf (c.args.form.now, b))) (sym c.in-Ok-push.ensures.items) (All-push (IsNewWorkerOf (c.args.form.now, b)) c.loop-seat.list.items _ i.list (form, popped.1));
+      list = subst (All (IsNewWorkerOf (c.args.form.now, b))) (sym c.in-Ok-push.ensures.items) (All-push (IsNewWorkerOf (c.args.form.now, b)) c.loop-seat.list.items _ i.list (ap (λ (p : g.row.F.Denot × ℕ × Bool). p.0) c.new-cursor.ensures ∙ form, popped.1));
     }

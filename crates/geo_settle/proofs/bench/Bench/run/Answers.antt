@@ -1,8 +1,7 @@
 use Rattle.std.proofs.Common.{◌≡◌, ◌↔◌, subst, length, arith}
-use Rattle.geo_board.specs.declared.seat.BoardSeat.{BoardSeat}
 use Rattle.geo_degree.specs.Questions.{IsLeastFailing}
 use Rattle.geo_settle.specs.declared.bench.First.TheVariants.{At}
-use Rattle.geo_settle.specs.Rounds.{HasSwept, IsWorkerOf}
+use Rattle.geo_settle.specs.Rounds.{HasSwept}
 use Rattle.geo_settle.proofs.SweepLaws.{all_taken}
 use Rattle.geo_settle.proofs.bench.Bench.run.Goals as goal
 

@@ -1,11 +1,11 @@
-use Rattle.std.proofs.Common.{◌≡◌, ◌≤◌, ◌<◌, ◌^◌, ◌↔◌, ◌∙◌, ap, sym, subst, List, All, length, arith}
+use Rattle.std.proofs.Common.{◌≡◌, ◌≤◌, ◌^◌, ◌↔◌, ◌∙◌, ap, sym, subst, List, All, length, arith}
 use Rattle.std.proofs.lemmas.List.Elements.{All-nil}
 use Rattle.geo_board.specs.declared.seat.Board.{Board}
 use Rattle.geo_board.specs.declared.seat.BoardSeat.{BoardSeat}
 use Rattle.geo_board.specs.BoardSeats.{entries_of, total_of, workers_of}
 use Rattle.geo_board.specs.Truth.{chunk_count}
 use Rattle.geo_degree.specs.Grids.{grid_size}
-use Rattle.geo_degree.specs.Questions.{IsLeastFailing, Question, grid_of}
+use Rattle.geo_degree.specs.Questions.{IsLeastFailing, grid_of}
 use Rattle.geo_settle.specs.declared.bench.First.TheVariants.{At}
 use Rattle.geo_settle.specs.Fails.{IsTruthfulOf, fails_at}
 use Rattle.geo_settle.proofs.SweepLaws.{AreDone, IsDone, all_entries_are, one_left}

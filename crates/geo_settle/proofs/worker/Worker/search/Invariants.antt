@@ -1,4 +1,5 @@
 use Rattle.std.proofs.Common.{◌≡◌, ◌<◌, ◌≤◌, ◌-◌, ℕ, true, false}
+use Rattle.crossbeam_utils.specs.Padded.{padded_value}
 use Rattle.geo_board.specs.BoardSeats.{IsSeatOf, number_of, worker_of}
 use Rattle.geo_board.specs.Machine.{worker_after_look}
 use Rattle.geo_settle.specs.Fails.{fails_at}
@@ -7,7 +8,7 @@ use Rattle.geo_settle.proofs.worker.Worker.search.Given as goal
 abbrev pub invariant-loop-from : goal.invariant-loop-from
 invariant-loop-from g l =
     let seat = l.self-inside.seat in
-    let cursor = l.self-inside.cursor in
+    let cursor = padded_value l.self-inside.cursor in
     let q = g.F.Form.question l.round-inside.form.now in
     record {
       form : cursor.0 ≡ l.round-inside.form.now;

@@ -1,4 +1,3 @@
-use Rattle.std.proofs.Common.{◌≡◌}
 use Rattle.geo_grid.proofs.posing.plan.Plan.of.Goals as goal
 
 pub with_lane-requires-clause-short : goal.with_lane-requires-clause-short

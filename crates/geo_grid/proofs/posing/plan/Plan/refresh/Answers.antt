@@ -1,4 +1,4 @@
-use Rattle.std.proofs.Common.{◌≡◌, ◌∙◌, ◌≤◌, ap, arith, length, map, unsigned_abs, inl, inr, pos}
+use Rattle.std.proofs.Common.{◌∙◌, ap, arith, length, inl, inr, pos}
 use Rattle.std.proofs.lemmas.List.{with_items_is}
 use Rattle.geo_grid.specs.Nodes.{short_limit, triple_there}
 use Rattle.geo_grid.proofs.LaneLaws.{low_on_grid}

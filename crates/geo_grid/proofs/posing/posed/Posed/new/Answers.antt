@@ -1,8 +1,7 @@
-use Rattle.std.proofs.Common.{◌≡◌, ◌∙◌, ◌≤◌, ap, length, map, refl, sym, arith}
+use Rattle.std.proofs.Common.{◌≡◌, ◌∙◌, ap, length, map, refl, sym, arith}
 use Rattle.std.specs.Prelude.{All}
 use Rattle.geo_sketch.specs.Lookups.{IsLive}
-use Rattle.geo_sketch.specs.Needs.{stated}
-use Rattle.geo_sketch.specs.Sketches.{Drawing, IsDrawn, parameter_limit}
+use Rattle.geo_sketch.specs.Sketches.{Drawing, IsDrawn}
 use Rattle.geo_degree.specs.Grids.{axis_magnitude}
 use Rattle.geo_degree.proofs.FormLaws.{posed_live}
 use Rattle.geo_grid.specs.Nodes.{short_limit}

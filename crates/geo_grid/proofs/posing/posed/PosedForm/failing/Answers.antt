@@ -1,6 +1,5 @@
 use Rattle.std.proofs.Common.{◌≡◌, ◌∙◌, ap, le_trans, length, map, unsigned_abs}
 use Rattle.std.proofs.lemmas.List.{length-map}
-use Rattle.geo_degree.specs.declared.grids.Axis.{Axis}
 use Rattle.geo_degree.specs.Grids.{axis_magnitude}
 use Rattle.geo_degree.specs.Verdicts.{question_of}
 use Rattle.geo_grid.specs.Plans.{Planned}

@@ -1,4 +1,4 @@
-use Rattle.std.proofs.Common.{◌≡◌, ◌∙◌, ap, sym, length, arith}
+use Rattle.std.proofs.Common.{◌∙◌, ap, sym, length, arith}
 use Rattle.std.proofs.lemmas.List.{length-take-le}
 use Rattle.geo_sketch.specs.Lookups.{IsLive}
 use Rattle.geo_height.specs.Capped.{within_limit}
