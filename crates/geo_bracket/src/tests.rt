@@ -4,6 +4,48 @@ use crate::{Expression, read_expression};
 use geo_sketch::{Kind, Name, Refusal, Sketch, Spec, Stop};
 use std::alloc::Global;
 
+/// Lines that are no expressions.
+const MALFORMED: &str = "\
+zero [A, B,C]
+zero [A,B ,C]
+zero [ A,B,C]
+zero + [A,B,C]
+zero - - [A,B,C]
+zero [A,B,C] + - [A,B,C]
+zero [A,B,C] -
+zero [A,B,C] + 7
+zero -
+zero 7
+zero 7 8 [A,B,C]
+zero [A,B,C] 7
+zero -7 [A,B,C]
+zero 1001 [A,B,C]
+zero 00001 [A,B,C]
+zero 1x [A,B,C]
+zero [A,B,C,A]
+zero [A,B]
+zero []
+zero [A,,C]
+zero [A,B,9]
+zero [A,B,C
+zero A,B,C]
+zero [A,B,C][A,B,C]
+zero [[A,B,C]]
+zero (A,B,C)
+zero [A,B,C] [A,B,C] [A,B,C] [A,B,C] [A,B,C] [A,B,C] [A,B,C] [A,B,C] [A,B,C]
+zero [A,B,C] + [A,B,C] + [A,B,C] + [A,B,C] + [A,B,C] + [A,B,C] + [A,B,C] + [A,B,C] + [A,B,C] + [A,B,C] + [A,B,C] + [A,B,C] + [A,B,C] + [A,B,C] + [A,B,C] + [A,B,C] + [A,B,C]
+";
+
+/// Expressions about the figure.
+const WHOLE: &str = "\
+zero [A,B,C]
+zero - 0007 [A,B,C] [l,l,l]\t+ 0 [A,A,B]
+zero 1000 [A,B,C]
+zero - [A,B,C]
+zero [A,A,C] [A,A,C] [A,A,C] [A,A,C] [A,A,C] [A,A,C] [A,A,C] [A,A,C]
+zero [A,B,C] + [A,B,C] + [A,B,C] + [A,B,C] + [A,B,C] + [A,B,C] + [A,B,C] + [A,B,C] + [A,B,C] + [A,B,C] + [A,B,C] + [A,B,C] + [A,B,C] + [A,B,C] + [A,B,C] + [A,B,C]
+";
+
 fn name(text: &[u8]) -> Result<Name, Stop> {
     match Name::new(text) {
         Some(name) => Ok(name),
@@ -47,38 +89,8 @@ fn each_malformed_expression_by_its_refusal(rt: HostRuntime) {
     let Ok(sketch) = figure(alloc) else {
         panic!(rt; "the figure was refused");
     };
-    let shapes: [&[u8]; 28] = [
-        b"zero [A, B,C]",
-        b"zero [A,B ,C]",
-        b"zero [ A,B,C]",
-        b"zero + [A,B,C]",
-        b"zero - - [A,B,C]",
-        b"zero [A,B,C] + - [A,B,C]",
-        b"zero [A,B,C] -",
-        b"zero [A,B,C] + 7",
-        b"zero -",
-        b"zero 7",
-        b"zero 7 8 [A,B,C]",
-        b"zero [A,B,C] 7",
-        b"zero -7 [A,B,C]",
-        b"zero 1001 [A,B,C]",
-        b"zero 00001 [A,B,C]",
-        b"zero 1x [A,B,C]",
-        b"zero [A,B,C,A]",
-        b"zero [A,B]",
-        b"zero []",
-        b"zero [A,,C]",
-        b"zero [A,B,9]",
-        b"zero [A,B,C",
-        b"zero A,B,C]",
-        b"zero [A,B,C][A,B,C]",
-        b"zero [[A,B,C]]",
-        b"zero (A,B,C)",
-        b"zero [A,B,C] [A,B,C] [A,B,C] [A,B,C] [A,B,C] [A,B,C] [A,B,C] [A,B,C] [A,B,C]",
-        b"zero [A,B,C] + [A,B,C] + [A,B,C] + [A,B,C] + [A,B,C] + [A,B,C] + [A,B,C] + [A,B,C] + [A,B,C] + [A,B,C] + [A,B,C] + [A,B,C] + [A,B,C] + [A,B,C] + [A,B,C] + [A,B,C] + [A,B,C]",
-    ];
-    for line in shapes {
-        assert!(rt; refusal(alloc, &sketch, line) == Some(Refusal::Shape));
+    for line in MALFORMED.split_terminator('\n') {
+        assert!(rt; refusal(alloc, &sketch, line.as_bytes()) == Some(Refusal::Shape), "{line}");
     }
     assert!(rt; refusal(alloc, &sketch, b"zero") == Some(Refusal::Arity));
     assert!(rt; refusal(alloc, &sketch, b" zero  ") == Some(Refusal::Arity));
@@ -94,16 +106,8 @@ fn whole_expressions(rt: HostRuntime) {
     let Ok(sketch) = figure(alloc) else {
         panic!(rt; "the figure was refused");
     };
-    let fine: [&[u8]; 6] = [
-        b"zero [A,B,C]",
-        b"zero - 0007 [A,B,C] [l,l,l]\t+ 0 [A,A,B]",
-        b"zero 1000 [A,B,C]",
-        b"zero - [A,B,C]",
-        b"zero [A,A,C] [A,A,C] [A,A,C] [A,A,C] [A,A,C] [A,A,C] [A,A,C] [A,A,C]",
-        b"zero [A,B,C] + [A,B,C] + [A,B,C] + [A,B,C] + [A,B,C] + [A,B,C] + [A,B,C] + [A,B,C] + [A,B,C] + [A,B,C] + [A,B,C] + [A,B,C] + [A,B,C] + [A,B,C] + [A,B,C] + [A,B,C]",
-    ];
-    for line in fine {
-        assert!(rt; refusal(alloc, &sketch, line).is_none());
+    for line in WHOLE.split_terminator('\n') {
+        assert!(rt; refusal(alloc, &sketch, line.as_bytes()).is_none(), "{line}");
     }
     let Ok(expression) = resolve(alloc, &sketch, b"zero - 0007 [C,B,A] [l,l,l] + [A,A,B]") else {
         panic!(rt; "the expression was refused");
