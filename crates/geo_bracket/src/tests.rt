@@ -90,7 +90,10 @@ fn each_malformed_expression_by_its_refusal(rt: HostRuntime) {
         panic!(rt; "the figure was refused");
     };
     for line in MALFORMED.split_terminator('\n') {
-        assert!(rt; refusal(alloc, &sketch, line.as_bytes()) == Some(Refusal::Shape), "{line}");
+        assert!(rt;
+            refusal(alloc, &sketch, line.as_bytes()) == Some(Refusal::Shape),
+            "{line}"
+        );
     }
     assert!(rt; refusal(alloc, &sketch, b"zero") == Some(Refusal::Arity));
     assert!(rt; refusal(alloc, &sketch, b" zero  ") == Some(Refusal::Arity));
@@ -107,7 +110,10 @@ fn whole_expressions(rt: HostRuntime) {
         panic!(rt; "the figure was refused");
     };
     for line in WHOLE.split_terminator('\n') {
-        assert!(rt; refusal(alloc, &sketch, line.as_bytes()).is_none(), "{line}");
+        assert!(rt;
+            refusal(alloc, &sketch, line.as_bytes()).is_none(),
+            "{line}"
+        );
     }
     let Ok(expression) = resolve(alloc, &sketch, b"zero - 0007 [C,B,A] [l,l,l] + [A,A,B]") else {
         panic!(rt; "the expression was refused");
