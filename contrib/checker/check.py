@@ -2,7 +2,8 @@
 """check.py < CERTIFICATES: checks certificates, one a line, and writes what docs/FORMATS.md prescribes for each.
 
 An outside checker: it was written from docs/FORMATS.md alone and has nothing in common with the program, nor with
-contrib/evaluator. Who trusts neither may read this: the numbers are Python's, which have any size."""
+contrib/evaluator. It trusts nobody: so it is one file that takes nothing from contrib/python either, though its reader is
+there too. Who trusts neither may read this: the numbers are Python's, which have any size."""
 import json
 import math
 import re

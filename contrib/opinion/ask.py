@@ -6,11 +6,12 @@ the answer should be `unsat`, of one that says `false` it should be `sat`, at th
 one theorem, that the statement holds, or that it fails at these values. Both files stand alone. Degrees and grids
 are not used: who asks another prover need not believe them. docs/FORMATS.md has the format of certificates."""
 import json
+import os
 import sys
 
-
-def parameters_of(elements):
-    return [p for n, _, how, *_ in elements for p in [2 * n, 2 * n + 1][:{'free': 2, 'cut': 1, 'blend': 1}.get(how, 0)]]
+sys.path.append(os.path.join(os.path.dirname(os.path.dirname(os.path.abspath(__file__))), 'python'))
+from bukshena.faults import WRONG_WORDS, Fault
+from bukshena.replies import certificate, parameters_of
 
 
 # ---- terms: a writer has a number, a parameter, a coordinate, sums, differences and products
@@ -139,6 +140,17 @@ def coq(v):
     return lines + [f'  ~ ({claim}).', 'Proof. intros. subst. vm_compute. intuition discriminate. Qed.']
 
 
+def main(words):
+    try:
+        if words not in (['smt'], ['coq']):
+            raise Fault(WRONG_WORDS, 'say smt or coq')
+        made = certificate(sys.stdin.read())
+    except Fault as fault:
+        print(fault.sentence, file=sys.stderr)
+        return fault.status
+    print('\n'.join({'smt': smt, 'coq': coq}[words[0]](made)))
+    return 0
+
+
 if __name__ == '__main__':
-    certificate = json.loads(sys.stdin.read())
-    print('\n'.join({'smt': smt, 'coq': coq}[sys.argv[1]](certificate)))
+    sys.exit(main(sys.argv[1:]))

@@ -1,4 +1,4 @@
-" Scripts of bukshena. To install: copy contrib/editors/vim into ~/.vim (or a folder of its packages).
+" Scripts of bukshena; ftdetect/bukshena.vim says which files these are.
 if exists('b:current_syntax')
   finish
 endif
