@@ -78,8 +78,16 @@ for place in vim/vimfiles nvim/site; do put_folder contrib/editors/vim "$share/$
 for file in README.md CHANGELOG.md; do put 644 "$file" "$share/doc/bukshena/$file"; done
 put_folder docs "$share/doc/bukshena/docs"
 put_folder examples "$share/doc/bukshena/examples"
+for folder in checker evaluator opinion; do put_folder "contrib/$folder" "$share/doc/bukshena/contrib/$folder"; done
 
 # what Python would keep at the first start, which a user who may not write there would pay for at each
 if [ -z "${DESTDIR-}" ] && command -v python3 >/dev/null; then
   python3 -I -m compileall -q "$share/bukshena/python" || true
 fi
+
+[ -z "${DESTDIR-}" ] || exit 0
+echo "installed; to begin: $prefix/bin/bukshena draw $share/doc/bukshena/examples/desargues.txt"
+case :$PATH: in
+  *":$prefix/bin:"*) ;;
+  *) echo "$prefix/bin is not on the PATH; with it there, bukshena alone is enough" ;;
+esac

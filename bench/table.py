@@ -170,6 +170,10 @@ def add_all(jobs, folder):
     jobs.add("empty", [PROGRAM, "run"])
     for file in sorted((TOP / "examples").glob("*.txt")):
         jobs.add(file.name, [PROGRAM, "run"], file.read_text())
+    examples = sorted((TOP / "examples").glob("*.txt"))
+    jobs.add("python", ["python3", "-c", "pass"])
+    jobs.add("picture", [TOP / "bukshena", "picture", TOP / "examples/desargues.txt", "-o", folder / "desargues.svg"])
+    jobs.add("judge", [TOP / "bukshena", "judge", *examples])
     lines = mixed(1_000_000)
     jobs.add("lines", [LINES], lines)
     jobs.add("lines none", [LINES])
@@ -211,6 +215,15 @@ def print_noticed(jobs):
     row("the same ledger again", f"{again / 1e6:.2f} ms", f"{again / ledger:.2f}")
 
 
+def print_package(jobs):
+    """Words of the Python package, to a Python that does nothing."""
+    none = jobs.least["python"]
+    row("`python3 -c pass`", f"{none / 1e6:.2f} ms", "1.00")
+    for job, what in (("picture", "`bukshena picture` of examples/desargues.txt"),
+                      ("judge", "`bukshena judge` of all examples")):
+        row(what, f"{jobs.least[job] / 1e6:.2f} ms", f"{jobs.least[job] / none:.2f}")
+
+
 def print_all(jobs):
     model = [line.split(":")[1].strip() for line in open("/proc/cpuinfo") if "model name" in line]
     print(f"{datetime.date.today()}, {len(model)} processors {model[0]}, "
@@ -236,6 +249,7 @@ def print_all(jobs):
     for file in sorted((TOP / "examples").glob("*.txt")):
         cost = jobs.least[file.name]
         row(f"examples/{file.name}", f"{cost / 1e6:.2f} ms", f"{cost / empty:.2f}")
+    print_package(jobs)
     line, word = jobs.each("lines", 1_000_000), jobs.each("words", 1_000_000)
     row("a line read, to `wc -w`", f"{line:.0f} ns, {1e9 / line:,.0f} lines a second", f"{line / word:.2f}")
 

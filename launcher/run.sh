@@ -63,7 +63,8 @@ read_file() {
   esac
 }
 
-# the words of the Python package; it is called so that no file of the folder one is in stands for a module
+# the words of the Python package; it is called so that no file of the folder one is in stands for a module, and without
+# what is installed beside Python, which it needs not and which takes time
 hand_to_python() {
   command -v python3 >/dev/null || stop_at 69 "$1 needs python3, which is not on the PATH; run, check, batch and gen need none"
   [ -d "$python/bukshena" ] || stop_at 69 "$1 needs the Python package, which is not in $python"
@@ -71,9 +72,10 @@ hand_to_python() {
   case $program in /*) ;; *) program=$PWD/$program ;; esac
   : "${BUKSHENA_PROGRAM:=$program}"
   export BUKSHENA_PROGRAM
-  exec python3 -I -c 'import runpy, sys
+  exec python3 -I -S -c 'import sys
 sys.path.insert(0, sys.argv.pop(1))
-runpy.run_module("bukshena", run_name="__main__", alter_sys=True)' "$python" "$@"
+from bukshena.command import main
+sys.exit(main(sys.argv[1:]))' "$python" "$@"
 }
 
 # near WORD KNOWN: WORD is the beginning of KNOWN, or they differ in one letter, one has a letter more, or two letters are

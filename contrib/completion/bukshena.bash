@@ -25,7 +25,7 @@ _bukshena() {
   case ${COMP_WORDS[1]} in
     run | check | batch) options=--workers ;;
     gen) [ "$COMP_CWORD" -ne 3 ] || _bukshena_words --workers "$word" && return ;;
-    picture) options='-o --width --whole --hide --window --counterexample --help' ;;
+    picture) options='-o --width --whole --hide --window --mark --fill --line-names --counterexample --help' ;;
     judge) options='--allow-unsettled --allow-false --json --seconds --workers --help' ;;
     ledger) options='--all --seconds --workers --help' ;;
     draw) options='--no-browser --help' ;;

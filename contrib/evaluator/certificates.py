@@ -1,102 +1,17 @@
 """Certificates, versions 1 and 2, checked point by point.
 
-Written from docs/FORMATS.md alone, to compare with the program: it shares nothing with it."""
+Written from docs/FORMATS.md alone, to compare with the program: it shares nothing with it. A line is read by
+contrib/python, which was written from there too."""
 import itertools
-import json
 import math
+import os
+import sys
 
 import geometry as g
 from geometry import Element, Sketch, other
 
-SHAPES = {'free': 0, 'fixed': 3, 'cut': 1, 'blend': 2, 'cross': 2}
-CLAIMS = {'null': 1, 'same': 2, 'on': 2, 'triple': 3}
-LIMIT = 2**31
-
-
-class Float:
-    """A number that is not a whole one for the reader: one with a point or an exponent, -0, or one past 64 bits."""
-
-
-def read_float(text):
-    if math.isinf(float(text)):
-        raise ValueError(text)
-    return Float()
-
-
-def read_whole(text):
-    n = int(text)
-    return n if -2**63 <= n < 2**64 and text != '-0' else read_float(text)
-
-
-def refuse_word(text):
-    raise ValueError(text)
-
-
-def read(line):
-    """The value that a line reads as; ValueError where it is no JSON."""
-    depth = deepest = 0
-    for byte in bytes_outside_strings(line):
-        depth += (byte in b'[{') - (byte in b']}')
-        deepest = max(deepest, depth)
-    if deepest > 127 or len(line) > 65536:
-        raise ValueError('deep or long')
-    value = json.loads(line.decode('utf-8'), parse_float=read_float, parse_int=read_whole, parse_constant=refuse_word)
-    json.dumps(value, default=str, ensure_ascii=False).encode('utf-8')  # a lone surrogate is refused
-    return value
-
-
-def bytes_outside_strings(line):
-    is_inside = is_escaped = False
-    for byte in line:
-        if is_inside:
-            is_inside = is_escaped or byte != 34
-            is_escaped = not is_escaped and byte == 92
-        else:
-            is_inside = byte == 34
-            yield byte
-
-
-def is_whole(x):
-    return type(x) is int and -LIMIT <= x < LIMIT
-
-
-def is_count(x):
-    return is_whole(x) and x >= 0
-
-
-def is_list_of(xs, test):
-    return type(xs) is list and all(test(x) for x in xs)
-
-
-def is_element(x):
-    return (type(x) is list and len(x) >= 3 and is_count(x[0]) and x[1] in ('point', 'line') and type(x[2]) is str
-            and SHAPES.get(x[2]) == len(x) - 3 and all((is_whole if x[2] == 'fixed' else is_count)(y) for y in x[3:]))
-
-
-def is_claim(x):
-    return type(x) is list and x and type(x[0]) is str and CLAIMS.get(x[0]) == len(x) - 1 and all(map(is_count, x[1:]))
-
-
-def is_values(x):
-    return is_list_of(x, is_whole)
-
-
-def has_shapes(v):
-    if type(v) is not dict or v.get('version') not in (1, 2) or type(v['version']) is not int:
-        return False
-    if set(v) == {'claim', 'degrees', 'elements', 'grid', 'verdict', 'version'}:
-        def is_degree(x):
-            return type(x) is list and (len(x) == 2 or len(x) == 3 and v['version'] == 2) and all(map(is_count, x[:-1])) and is_whole(x[-1])
-
-        def is_grid(x):
-            return type(x) is list and (len(x) == 2 and is_count(x[0]) and is_values(x[1])
-                                        or len(x) == 4 and v['version'] == 2 and all(map(is_count, x[:2])) and all(map(is_values, x[2:])))
-        finding = v['verdict'] == 'proved' and is_list_of(v['degrees'], is_degree) and is_list_of(v['grid'], is_grid)
-    elif set(v) == {'claim', 'elements', 'values', 'verdict', 'version'}:
-        finding = v['verdict'] == 'false' and is_list_of(v['values'], lambda x: type(x) is list and len(x) == 2 and is_count(x[0]) and is_whole(x[1]))
-    else:
-        return False
-    return finding and is_list_of(v['elements'], is_element) and is_claim(v['claim'])
+sys.path.append(os.path.join(os.path.dirname(os.path.abspath(__file__)), '..', 'python'))
+from bukshena.certificates import has_shapes, read
 
 
 def rebuilt(entries):

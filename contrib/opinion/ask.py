@@ -9,9 +9,28 @@ import json
 import os
 import sys
 
-sys.path.append(os.path.join(os.path.dirname(os.path.dirname(os.path.abspath(__file__))), 'python'))
-from bukshena.faults import WRONG_WORDS, Fault
-from bukshena.replies import certificate, parameters_of
+BESIDE = os.path.dirname(os.path.dirname(os.path.abspath(__file__)))
+# the package stands beside this folder, or, where both are installed, in share/bukshena
+sys.path += [os.path.join(BESIDE, 'python'), os.path.join(BESIDE, '..', '..', '..', 'bukshena', 'python')]
+from bukshena.certificates import certificate, parameters_of
+from bukshena.faults import BAD_DATA, WRONG_WORDS, Fault
+
+
+# ---- what a certificate names
+
+def fault_of(v):
+    """What a certificate names that is not there, which could not be said to another prover, or None. Whether it is valid
+    is for `check`."""
+    known = set()
+    for n, _, how, *args in v['elements']:
+        if n in known or how != 'fixed' and not known.issuperset(args):
+            return f'element {n} stands twice, or names one that does not stand before it'
+        known.add(n)
+    if not known.issuperset(v['claim'][1:]):
+        return 'its claim names an element that is not listed'
+    if v['verdict'] == 'false' and sorted(p for p, _ in v['values']) != sorted(parameters_of(v['elements'])):
+        return 'its values are not those of its parameters'
+    return None
 
 
 # ---- terms: a writer has a number, a parameter, a coordinate, sums, differences and products
@@ -145,6 +164,9 @@ def main(words):
         if words not in (['smt'], ['coq']):
             raise Fault(WRONG_WORDS, 'say smt or coq')
         made = certificate(sys.stdin.read())
+        wrong = fault_of(made)
+        if wrong:
+            raise Fault(BAD_DATA, f'the line is no certificate: {wrong}; bukshena check says more')
     except Fault as fault:
         print(fault.sentence, file=sys.stderr)
         return fault.status

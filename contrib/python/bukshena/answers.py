@@ -117,7 +117,7 @@ def sentence(text):
 
 
 def meaning(cause):
-    """What a refusal, a verdict or a state says, in one line: `taken`, `unsettled grid`, `far`. '' where none is known."""
+    """What a refusal, a verdict or a state says, in one line: `taken`, `unsettled grid`, `far`. '' where unknown."""
     return sentence(parted(cause)[0])
 
 
@@ -209,7 +209,7 @@ def help_for(word, width=100):
 
 
 def is_about(answer, word):
-    """Whether help on a word has a longer answer too: `unsettled grid` for `unsettled`. Answers of `check` stand alone."""
+    """Whether help on a word has a longer answer: `unsettled grid` for `unsettled`. Answers of `check` stand alone."""
     first, *rest = answer.split()
     return bool(rest) and word in (first, *rest) and (first != 'valid' or word == 'valid')
 

@@ -51,6 +51,11 @@ def prepare_output():
             stream.reconfigure(encoding=sys.getfilesystemencoding(), errors='surrogateescape')
 
 
+def leave_output():
+    """What could not be written is not tried again at the end."""
+    os.dup2(os.open(os.devnull, os.O_WRONLY), sys.stdout.fileno())
+
+
 def main(words):
     """The exit status. A fault is one line on standard error."""
     prepare_output()
@@ -59,13 +64,14 @@ def main(words):
         sys.stdout.flush()
         return status
     except Fault as fault:
+        if fault.status == NO_OUTPUT:
+            leave_output()
         print(fault.sentence, file=sys.stderr)
         return fault.status
     except KeyboardInterrupt:
         return INTERRUPTED
     except OSError as error:
-        # what could not be written is not tried again at the end
-        os.dup2(os.open(os.devnull, os.O_WRONLY), sys.stdout.fileno())
+        leave_output()
         if not isinstance(error, BrokenPipeError):
             print(f'bukshena: the output cannot be written: {cause(error)}', file=sys.stderr)
         return NO_OUTPUT

@@ -17,7 +17,7 @@ VIEWS = ('0', '1', '2')
 
 
 def candidates(before, session, own):
-    """The words that may stand behind the text `before`, which ends where a word begins. `own` has the prompt's words."""
+    """The words that may stand behind the text `before`, which ends where a word begins. `own` are the prompt's."""
     words = before.replace('[', ' ').replace(',', ' ').split()
     if not words:
         return sorted([*own, *COMMANDS, *TOOL_WORDS])

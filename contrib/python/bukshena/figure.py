@@ -5,12 +5,11 @@ A point and a line are three whole numbers each, as on the screen: (a, b, c) is 
 derivation alone. What is `null` or `far`, and the line at infinity, are in no figure."""
 from dataclasses import dataclass, field
 from math import gcd
-from typing import Dict, List, Optional, Tuple
 
 from bukshena import replies
 from bukshena.faults import BAD_DATA, Fault
 
-Triple = Tuple[int, int, int]
+Triple = tuple[int, int, int]
 
 PROVED, FALSE, MARKED = 'proved', 'false', 'marked'
 
@@ -27,8 +26,8 @@ class Dot:
     """A point of the plane, or a direction. `is_through` says that a statement's lines go through it; without names it is
     no element of the sketch."""
     triple: Triple
-    names: List[str] = field(default_factory=list)
-    tone: Optional[Tone] = None
+    names: list[str] = field(default_factory=list)
+    tone: 'Tone | None' = None
     is_through: bool = False
 
     @property
@@ -41,11 +40,11 @@ class Stroke:
     """A line. `is_theorem` where a statement says that three points lie on it, `is_carrier` where it is no element of the
     sketch and a point was put on it by `along`. `ends` are the dots between which alone it is drawn, where there are some."""
     triple: Triple
-    names: List[str] = field(default_factory=list)
-    tone: Optional[Tone] = None
+    names: list[str] = field(default_factory=list)
+    tone: 'Tone | None' = None
     is_theorem: bool = False
     is_carrier: bool = False
-    ends: Tuple[Triple, ...] = ()
+    ends: tuple[Triple, ...] = ()
 
 
 @dataclass(frozen=True)
@@ -57,12 +56,12 @@ class Said:
 
 @dataclass
 class Figure:
-    dots: Dict[Triple, Dot] = field(default_factory=dict)
-    strokes: Dict[Triple, Stroke] = field(default_factory=dict)
+    dots: dict[Triple, Dot] = field(default_factory=dict)
+    strokes: dict[Triple, Stroke] = field(default_factory=dict)
     # the sides of three points that are false to be collinear
-    sides: List[Stroke] = field(default_factory=list)
-    polygons: List[Tuple[Triple, ...]] = field(default_factory=list)
-    said: List[Said] = field(default_factory=list)
+    sides: list[Stroke] = field(default_factory=list)
+    polygons: list[tuple[Triple, ...]] = field(default_factory=list)
+    said: list[Said] = field(default_factory=list)
 
     def dots_on(self, stroke):
         """The dots of the plane, those with names or a tone, that lie on a line."""
@@ -220,7 +219,7 @@ class Maker:
 
     def say(self, statement, what):
         names = statement.split()[1:]
-        if not all(name in self.triples for name in names):
+        if not all(name in self.triples for name in names) or self.hidden.issuperset(names):
             return
         tone = Tone(what, sum(said.tone.what == what for said in self.figure.said))
         self.figure.said.append(Said(statement, tone))

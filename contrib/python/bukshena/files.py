@@ -5,6 +5,7 @@ import sys
 from bukshena.faults import BAD_DATA, NO_INPUT, NO_OUTPUT, Fault
 
 INPUT_BYTES = 2**24
+SCRIPT_LINES = 2**18
 
 
 def read(path):
@@ -19,6 +20,14 @@ def read(path):
         raise Fault(NO_INPUT, why_unread(path, error)) from None
     if len(data) > INPUT_BYTES:
         raise Fault(BAD_DATA, f'{name_of(path)} has more than {INPUT_BYTES:,} bytes; cut it into several scripts')
+    return data
+
+
+def read_script(path):
+    """The bytes of a script whose reply is to be read line by line. Fault 65 also where it has too many lines for that."""
+    data = read(path)
+    if data.count(b'\n') > SCRIPT_LINES:
+        raise Fault(BAD_DATA, f'{name_of(path)} has more than {SCRIPT_LINES:,} lines; cut it into several scripts')
     return data
 
 

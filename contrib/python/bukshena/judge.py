@@ -7,7 +7,6 @@ import json
 import os
 import re
 from dataclasses import dataclass, field
-from typing import List, Optional
 
 from bukshena import files, process, replies
 from bukshena.command import Words
@@ -46,10 +45,10 @@ class Judged:
     """What is known of a file. `fault` is why it was not judged, `unended` the tools that no `end` closed."""
     path: str
     data: bytes = b''
-    refused: List[Refused] = field(default_factory=list)
-    claims: List[replies.Entry] = field(default_factory=list)
+    refused: list[Refused] = field(default_factory=list)
+    claims: list[replies.Entry] = field(default_factory=list)
     unended: list = field(default_factory=list)
-    fault: Optional[Fault] = None
+    fault: 'Fault | None' = None
 
     def unproved(self, options):
         allowed = {'false': options.allow_false, 'unsettled grid': options.allow_unsettled,

@@ -87,7 +87,7 @@ def options_of(words):
 
 def main(words):
     options = options_of(words)
-    data = files.read(options.file)
+    data = files.read_script(options.file)
     try:
         read = Read(data, options)
     except Fault as fault:

@@ -11,7 +11,7 @@ import signal
 import subprocess
 import sys
 
-from bukshena import answers, files, plain
+from bukshena import answers, files
 from bukshena.command import Words
 from bukshena.completion import Completion
 from bukshena.faults import BAD_DATA, ENDED, WRONG_WORDS, Fault
@@ -29,7 +29,8 @@ PATIENCE = 3.0
 WIDTH = 100
 REFUSAL = re.compile(r'refused \d+ ([a-z]+)\Z')
 # runs a command of this package as the launcher does
-ANOTHER = 'import sys; sys.path.insert(0, sys.argv.pop(1)); from bukshena.command import main; sys.exit(main(sys.argv[1:]))'
+ANOTHER = ('import sys; sys.path.insert(0, sys.argv.pop(1)); '
+           'from bukshena.command import main; sys.exit(main(sys.argv[1:]))')
 PACKAGE = os.path.dirname(os.path.dirname(os.path.abspath(__file__)))
 BYTE_ORDER_MARK = b'\xef\xbb\xbf'
 
@@ -50,15 +51,16 @@ Tools   tool T k, end, use T R ..
 Here    help WORD           what a command or an answer means
         save FILE           writes the lines so far, refused ones as comments
         load FILE           begins anew, with the lines of a file
-        picture FILE        draws the sketch to a file .svg
+        picture FILE        draws the sketch to a file .svg, .tex, .pdf or .png
         Ctrl-C leaves the line. Ctrl-D, or quit, ends."""
 
 OWN_HELP = {
     'help': '`help` lists the commands, `help WORD` tells what a command or an answer means.',
-    'save': '`save FILE` writes the lines so far, for `bukshena run FILE`. A refused line is written as a comment, so that '
-            'each line has the number that it had here.',
+    'save': '`save FILE` writes the lines so far, for `bukshena run FILE`. A refused line is written as a comment, so '
+            'that each line has the number that it had here.',
     'load': '`load FILE` begins anew, with the lines of a file. Answers other than `ok` are shown.',
-    'picture': '`picture FILE` draws the sketch to a file whose name ends with .svg.',
+    'picture': '`picture FILE` draws the sketch, with what is claimed and proved in colour, to a file whose name ends with .svg, .tex, '
+               '.pdf or .png. `bukshena picture --help` has more.',
     'quit': '`quit`, `exit` or Ctrl-D ends the prompt.',
     'exit': '`quit`, `exit` or Ctrl-D ends the prompt.',
 }
@@ -164,11 +166,7 @@ class Prompt:
 
     def picture(self, path):
         path = file_named('picture', path)
-        if plain.is_all_there_is():
-            plain.draw(self.session.script(), path)
-            say(path)
-            return
-        words = [sys.executable, '-I', '-c', ANOTHER, PACKAGE, 'picture', '-', '-o', path]
+        words = [sys.executable, '-I', '-S', '-c', ANOTHER, PACKAGE, 'picture', '-', '-o', path]
         done = subprocess.run(words, input=self.session.script(), stdout=subprocess.PIPE, stderr=subprocess.PIPE)
         if done.returncode:
             told = done.stderr.decode(errors='replace').strip().split('\n')[-1]
@@ -234,7 +232,7 @@ def lines_in(path):
     if len(data) > INPUT_BYTES:
         raise Fault(BAD_DATA, f'{path} has more than 16,777,216 bytes: cut it into several scripts')
     if data.startswith(BYTE_ORDER_MARK):
-        raise Fault(BAD_DATA, f'{path} begins with a byte order mark, which the program refuses: save it as plain ASCII')
+        raise Fault(BAD_DATA, f'{path} begins with a byte order mark, which the program refuses; save it without')
     whole = data[:-1] if data.endswith(b'\n') else data
     return [line[:-1] if line.endswith(b'\r') else line for line in whole.split(b'\n')] if data else []
 

@@ -4,12 +4,10 @@
 number that the program counts, and `at`, the line of the file that asked for it; lines without a reply have none.
 What a single line says is read by `entry`, `shown` and the like, which prompts and servers use on replies that came
 line by line."""
-import json
 import re
 from dataclasses import dataclass
 from fractions import Fraction
 from itertools import takewhile
-from typing import Optional, Tuple
 
 from bukshena.faults import BAD_DATA, Fault
 from bukshena.script import STATEMENTS, Sketch, expand
@@ -45,7 +43,7 @@ class Shown:
     """An element on the screen. `numbers` are its three, and None where its `state` is `null` or `far`."""
     name: str
     kind: str
-    numbers: Optional[Tuple[Fraction, Fraction, Fraction]]
+    numbers: 'tuple[Fraction, Fraction, Fraction] | None'
     state: str = ''
 
 
@@ -53,7 +51,7 @@ class Shown:
 class Screen:
     line: int
     at: int
-    elements: Tuple[Shown, ...]
+    elements: tuple[Shown, ...]
 
 
 @dataclass(frozen=True)
@@ -68,7 +66,7 @@ class Picture:
 class Conjectures:
     line: int
     at: int
-    statements: Tuple[str, ...]
+    statements: tuple[str, ...]
 
 
 @dataclass(frozen=True)
@@ -88,9 +86,9 @@ class Entry:
     state."""
     statement: str
     verdict: str
-    values: Tuple[Value, ...] = ()
-    claimed_at: Optional[int] = None
-    is_noticed: Optional[bool] = None
+    values: tuple[Value, ...] = ()
+    claimed_at: 'int | None' = None
+    is_noticed: 'bool | None' = None
 
     @property
     def origin(self):
@@ -125,7 +123,7 @@ class Entry:
 class Ledger:
     line: int
     at: int
-    entries: Tuple[Entry, ...]
+    entries: tuple[Entry, ...]
 
 
 @dataclass(frozen=True)
@@ -144,7 +142,7 @@ class Inferred:
 
 @dataclass(frozen=True)
 class Certificate:
-    """`value` is the object of JSON; `text` the line as it was written. Nothing of it is checked here."""
+    """`value` is the object of JSON; `text` the line as it was written. Whether it is valid is not looked at."""
     line: int
     at: int
     text: str
@@ -197,25 +195,6 @@ def screen(text):
 def entries(text):
     """The entries of the reply to a `ledger`."""
     return tuple(entry(line) for line in text.splitlines())
-
-
-# ---- certificates
-
-def certificate(text):
-    """The object of a certificate's line, with its numbers as they stand there. Nothing of it is checked. Fault 65."""
-    try:
-        made = json.loads(text)
-    except ValueError as error:
-        raise Fault(BAD_DATA, f'the line is no certificate: {error}') from None
-    if not isinstance(made, dict) or not {'claim', 'elements', 'verdict', 'version'} <= set(made):
-        raise Fault(BAD_DATA, 'the line is no certificate: it has no claim, elements, verdict and version')
-    return made
-
-
-def parameters_of(elements):
-    """The numbers of the parameters of a certificate's elements, rising."""
-    count = {'free': 2, 'cut': 1, 'blend': 1}
-    return [p for n, _, how, *_ in elements for p in (2 * n, 2 * n + 1)[:count.get(how, 0)]]
 
 
 # ---- a whole reply
@@ -338,6 +317,7 @@ class Reader:
     def certificate(self, index, line):
         if not self.text().startswith('{'):
             return Uncertified(line.number, line.at, self.parsed(entry))
+        from bukshena.certificates import certificate
         text = self.next()
         try:
             return Certificate(line.number, line.at, text, certificate(text))

@@ -5,7 +5,6 @@ that it carries out the number that it counts and the line of the file, both fro
 line is answered: a `Sketch` is told of the lines that were."""
 import re
 from dataclasses import dataclass, field
-from typing import Dict, List, Optional, Tuple
 
 STATEMENTS = {'null': 1, 'same': 2, 'on': 2, 'collinear': 3, 'concurrent': 3}
 RULES = {'span': 4, 'extend': 4, 'lie': 4, 'unique': 4, 'move': 3}
@@ -71,7 +70,7 @@ class Tool:
     name: bytes
     arguments: int
     at: int
-    body: List[bytes] = field(default_factory=list)
+    body: list[bytes] = field(default_factory=list)
 
 
 @dataclass(frozen=True)
@@ -80,7 +79,7 @@ class Given:
     number: int
     at: int
     text: bytes
-    use: Optional[str] = None
+    use: 'str | None' = None
 
     @property
     def words(self):
@@ -91,12 +90,12 @@ class Expander:
     """Takes the lines of a script one by one, and gives those that the program carries out."""
 
     def __init__(self):
-        self.tools: Dict[bytes, Tool] = {}
-        self.body: Optional[Tool] = None
-        self.unended: List[Tool] = []
+        self.tools: dict[bytes, Tool] = {}
+        self.body: 'Tool | None' = None
+        self.unended: list[Tool] = []
         self.taken = self.given = 0
 
-    def take(self, line) -> List[Given]:
+    def take(self, line) -> list[Given]:
         self.taken += 1
         words = raw_words(line)
         if self.body is not None:
@@ -148,8 +147,8 @@ def filled(line, prefix, names):
 @dataclass(frozen=True)
 class Expansion:
     """The lines that the program carries out, and the tools that no `end` closed."""
-    lines: Tuple[Given, ...]
-    unended: Tuple[Tool, ...]
+    lines: tuple[Given, ...]
+    unended: tuple[Tool, ...]
     is_open: bool
 
     def line_at(self, number):
@@ -183,8 +182,8 @@ class Element:
     name: str
     word: str
     kind: str
-    below: Tuple[int, ...]
-    values: Tuple[int, ...]
+    below: tuple[int, ...]
+    values: tuple[int, ...]
     at: int
 
     @property
@@ -199,7 +198,7 @@ class Element:
 class Claim:
     """A statement by the rising numbers of its elements; `what` is null, same, on, or triple."""
     what: str
-    numbers: Tuple[int, ...]
+    numbers: tuple[int, ...]
     at: int = 0
 
     @property
@@ -211,8 +210,8 @@ class Sketch:
     """What the accepted lines of a script have made. Tell it of each line that was answered by `ok`."""
 
     def __init__(self):
-        self.elements: Dict[int, Element] = {}
-        self.claims: List[Claim] = []
+        self.elements: dict[int, Element] = {}
+        self.claims: list[Claim] = []
         self.next = 0
         # changes, each with what takes it back
         self.done, self.undone = [], []
@@ -278,7 +277,7 @@ class Sketch:
 
     # ---- names
 
-    def named(self, name) -> Optional[Element]:
+    def named(self, name) -> 'Element | None':
         return next((element for element in self.elements.values() if element.name == name), None)
 
     def live(self):

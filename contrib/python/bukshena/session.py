@@ -14,7 +14,7 @@ NAMES_SECONDS = 2.0
 
 
 class Session:
-    """`texts` are the lines so far as they are saved, as bytes: a refused one as a comment, so that the numbers stay."""
+    """`texts` are the lines so far as they are saved, as bytes: a refused one as a comment, so that numbers stay."""
 
     def __init__(self, seconds=None):
         self.seconds = NO_LIMIT if seconds is None else seconds

@@ -3,7 +3,7 @@ import os
 import sys
 import time
 
-from bukshena import files, plain
+from bukshena import files
 from bukshena.command import Words, carry_out
 from bukshena.faults import NO_INPUT, WRONG_WORDS, Fault
 
@@ -35,15 +35,8 @@ def look(path, picture):
     """Judges the script and draws it. What goes wrong is told, and the watch goes on."""
     print(time.strftime('%H:%M:%S'), path, flush=True)
     attempt(carry_out, ['judge', path])
-    if attempt(draw, path, picture) == 0:
+    if attempt(carry_out, ['picture', path, '-o', picture]) == 0:
         print(picture, flush=True)
-
-
-def draw(path, picture):
-    if not plain.is_all_there_is():
-        return carry_out(['picture', path, '-o', picture])
-    plain.draw(files.read(path), picture)
-    return 0
 
 
 def attempt(act, *given):
@@ -73,7 +66,7 @@ def watch(path, picture):
 def main(words):
     reader = Words('watch', description='Judges a script and draws it whenever the file changes, until Ctrl-C.')
     reader.add_argument('file', metavar='FILE', help='a script')
-    reader.add_argument('-o', dest='picture', metavar='NAME', help='the picture; FILE with .svg at its end, if not said')
+    reader.add_argument('-o', dest='picture', metavar='NAME', help='the picture; FILE with .svg, if not said')
     read = reader.parse_args(words)
     if read.file == '-':
         raise Fault(WRONG_WORDS, 'watch wants the name of a file: standard input does not change')

@@ -11,13 +11,28 @@ import termios
 import time
 
 PACKAGE = os.path.dirname(os.path.dirname(os.path.abspath(__file__)))
-SECONDS = 30
+# for what comes by itself, however slow or loaded the machine is
+SECONDS = 300
 
 
 def environment(**more):
     """The environment of a command of the package, with a terminal that has no colours."""
     kept = {name: value for name, value in os.environ.items() if name != 'XDG_STATE_HOME'}
     return {**kept, 'PYTHONPATH': PACKAGE, 'TERM': 'dumb', 'LC_ALL': 'C.UTF-8', **more}
+
+
+def is_gone(pid):
+    """Whether a process has ended, or ends soon; one that nobody has waited for yet has ended too."""
+    limit = time.monotonic() + SECONDS
+    while time.monotonic() < limit:
+        try:
+            with open(f'/proc/{pid}/stat', encoding='ascii', errors='replace') as file:
+                if file.read().rpartition(')')[2].split()[0] in 'ZX':
+                    return True
+        except (FileNotFoundError, ProcessLookupError):
+            return True
+        time.sleep(0.02)
+    return False
 
 
 class Terminal:
@@ -53,6 +68,12 @@ class Terminal:
             except OSError:
                 return False
         return True
+
+    def pause(self, seconds=1.0):
+        """As a person does before Ctrl-C: one that comes before Python waits for a key again is seen with that key only."""
+        limit = time.monotonic() + seconds
+        while time.monotonic() < limit:
+            self.read(0.05)
 
     def until(self, pattern, seconds=SECONDS):
         """What it writes from the last such call on, up to a pattern and with it."""

@@ -137,6 +137,13 @@ class BadInput(unittest.TestCase):
                 self.assertIn(said[2], (1, 65), said)
                 self.expect_sentences(said, path)
 
+    def test_more_lines_than_are_read_one_by_one(self):
+        path = self.written('s.txt', SCRIPT + b'\n' * (LONGEST - len(SCRIPT)))
+        for word in ('judge', 'ledger', 'picture'):
+            said = self.ask(*self.words(word, path))
+            self.assertEqual(said[2], 65, said)
+            self.expect_sentences(said, path)
+
     def test_an_empty_file_and_one_without_a_last_line_feed(self):
         for data in (b'', b'\n', b'\r\n', SCRIPT[:-1], SCRIPT.replace(b'\n', b'\r\n')):
             path = self.written('s.txt', data)

@@ -7,7 +7,7 @@ import unittest
 TOP = os.path.abspath(os.path.join(os.path.dirname(os.path.abspath(__file__)), *[os.pardir] * 3))
 
 
-@unittest.skipUnless(shutil.which('make'), 'make is not installed')
+@unittest.skipUnless(shutil.which('make'), 'make')
 class Book(unittest.TestCase):
     """The example of contrib/book: it is built where all is proved, and not where something is not."""
 
@@ -15,10 +15,10 @@ class Book(unittest.TestCase):
         room = tempfile.TemporaryDirectory()
         self.addCleanup(room.cleanup)
         self.book = os.path.join(room.name, 'book')
-        shutil.copytree(os.path.join(TOP, 'contrib', 'book'), self.book, ignore=shutil.ignore_patterns('judged', '*.svg'))
+        shutil.copytree(os.path.join(TOP, 'contrib', 'book'), self.book, ignore=shutil.ignore_patterns('judged', '*.svg', '*.aux'))
 
-    def make(self):
-        done = subprocess.run(['make', '-C', self.book, f'BUKSHENA={os.path.join(TOP, "bukshena")}'], stdout=subprocess.PIPE,
+    def make(self, *targets):
+        done = subprocess.run(['make', '-C', self.book, f'BUKSHENA={os.path.join(TOP, "bukshena")}', *targets], stdout=subprocess.PIPE,
                               stderr=subprocess.STDOUT)
         return done.returncode, done.stdout.decode()
 
@@ -43,3 +43,16 @@ class Book(unittest.TestCase):
             self.assertNotEqual(status, 0)
             self.assertIn(f'figures/desargues.txt:{script.count(chr(10)) + 1}: {told}', said)
             self.assertFalse(os.path.exists(os.path.join(self.book, 'figures', 'desargues.svg')))
+
+    def test_figures_for_latex(self):
+        self.assertEqual(self.make('latex')[0], 0)
+        for name in ('desargues.tex', 'pappus.tex'):
+            self.assertIn('\\begin{tikzpicture}', self.figure(name))
+
+    @unittest.skipUnless(shutil.which('pdflatex'), 'pdflatex')
+    def test_the_book_by_latex(self):
+        self.make('latex')
+        words = ['pdflatex', '-interaction=nonstopmode', '-halt-on-error', 'book.tex']
+        done = subprocess.run(words, cwd=self.book, stdout=subprocess.PIPE, timeout=300)
+        self.assertEqual(done.returncode, 0, done.stdout.decode('latin-1')[-1000:])
+        self.assertIn('Output written on book.pdf', done.stdout.decode('latin-1'))

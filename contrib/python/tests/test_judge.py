@@ -46,7 +46,8 @@ class Judge(unittest.TestCase):
         return said.splitlines()
 
     def test_examples(self):
-        """The claims of all examples, with the verdicts of the replies beside them, by one run in a second."""
+        """The claims of all examples, with the verdicts of the replies beside them, by one run. It takes half a second; a
+        machine that is slow and loaded has half a minute."""
         want, claims = [], 0
         for path in EXAMPLES:
             ledgers = [r for r in replies.read(read(path), read(path[:-3] + 'reply')) if isinstance(r, replies.Ledger)]
@@ -59,7 +60,7 @@ class Judge(unittest.TestCase):
         self.assertEqual([line.split(' at ')[0] for line in said], want)
         self.assertEqual(last, f'{len(EXAMPLES)} files, {claims} claims: 16 proved, 3 false, 2 unsettled')
         if 'SLOW' not in os.environ:
-            self.assertLess(seconds, 2.5)
+            self.assertLess(seconds, 30)
 
     def test_a_fault_each(self):
         paths = [self.written(f'{name}.txt', text) for name, text, _ in FAULTS]
@@ -140,7 +141,7 @@ class Judge(unittest.TestCase):
             said, wrong, status = command('judge', path, BUKSHENA_PROGRAM=program_of(self.room, f'cat >/dev/null; {text}' if text != 'cat' else text))
             self.assertIn(status, (65, 70), text)
             self.assertRegex(wrong, r'\Abukshena: [^\n]*figure\.txt[^\n]*\n\Z', text)
-        said, wrong, status = command('judge', '--seconds', '0.3', path, path, BUKSHENA_PROGRAM=program_of(self.room, 'exec sleep 9'))
+        said, wrong, status = command('judge', '--seconds', '0.3', path, path, BUKSHENA_PROGRAM=program_of(self.room, 'exec sleep 600'))
         self.assertEqual(status, 75)
         self.assertRegex(wrong, r'\Abukshena: [^\n]*figure\.txt and 1 other file: [^\n]*\n\Z')
 

@@ -93,7 +93,7 @@ class Shown(unittest.TestCase):
     def test_advice(self):
         said = self.shown('-', data=UNSETTLED.encode())
         at = said.index('  unsettled grid collinear P Q R')
-        self.assertRegex(said[at + 1], r'^    \S.*fix points')
+        self.assertRegex(said[at + 1], r'^    [Ff]ix points|^    \S.* fix points')
 
     def test_lines_that_are_refused(self):
         said = self.shown('-', data=b'point A 0 0\npoint A 1 1\ntool m 0\n', status=1)

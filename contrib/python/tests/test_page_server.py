@@ -7,19 +7,23 @@ import tempfile
 import threading
 import time
 import unittest
+import urllib.error
+import urllib.request
 from fractions import Fraction
 
 from bukshena import evaluate
+from bukshena.faults import TOO_LATE, Fault
 from bukshena.page import change, sketch
 from bukshena.page.programs import Programs
 from bukshena.page.server import CLOSED_SECONDS, SILENT_SECONDS, UNOPENED_SECONDS, Page, Server
+from tests.terminal import Terminal
 
 SCRIPT = 'point A 1 2\npoint B 3 1\njoin l A B\non P l 2\nclaim on P l\n'
 
 
 class Served(unittest.TestCase):
     def setUp(self):
-        self.server = Server(Page(SCRIPT, seconds=20))
+        self.server = Server(Page(SCRIPT, seconds=300))
         threading.Thread(target=self.server.serve_forever, daemon=True).start()
         self.secret = self.server.page.secret
 
@@ -28,7 +32,7 @@ class Served(unittest.TestCase):
         self.server.server_close()
 
     def request(self, method, path, body=None, **headers):
-        connection = http.client.HTTPConnection('127.0.0.1', self.server.server_port, timeout=30)
+        connection = http.client.HTTPConnection('127.0.0.1', self.server.server_port, timeout=300)
         try:
             connection.putrequest(method, path, skip_host=True, skip_accept_encoding=True)
             given = {'Host': f'127.0.0.1:{self.server.server_port}', **headers}
@@ -84,6 +88,13 @@ class Served(unittest.TestCase):
         self.assertEqual(self.ask('move', id='gone', name='P', place=[9, 2, 4])[0], 410)
         self.assertEqual(self.ask('move', id=told['id'], name='P', place=[9, 2, 0])[0], 400)
 
+    def test_pictures(self):
+        """The ledger is asked for them, so what is proved stands in them."""
+        for form, pattern in (('svg', r'(?s)^<svg .*<title>.*proved.*</svg>$'), ('tikz', r'(?s)\\begin\{tikzpicture\}.*\\end\{tikzpicture\}')):
+            status, told = self.ask('picture', script=SCRIPT, form=form, ledger=True)
+            self.assertEqual(status, 200, told)
+            self.assertRegex(told['text'].strip(), pattern)
+
     def test_a_certificate_is_made_and_checked(self):
         _, made = self.ask('certify', script=SCRIPT, statement='on P l')
         self.assertEqual(self.ask('check', certificate=made['certificate']), (200, {'answer': 'valid proved'}))
@@ -94,7 +105,7 @@ class Slow(unittest.TestCase):
 
     def setUp(self):
         handle, self.path = tempfile.mkstemp()
-        os.write(handle, b'#!/bin/sh\nexec sleep 60\n')
+        os.write(handle, b'#!/bin/sh\nexec sleep 600\n')
         os.close(handle)
         os.chmod(self.path, stat.S_IRWXU)
         self.before = os.environ.get('BUKSHENA_PROGRAM')
@@ -107,50 +118,90 @@ class Slow(unittest.TestCase):
             os.environ['BUKSHENA_PROGRAM'] = self.before
         os.remove(self.path)
 
-    def test_limits(self):
-        page = Page(seconds=0.5, together=1)
-        outcomes = []
-
-        def judge(owner):
+    def judging(self, page, owner, outcomes):
+        """A thread in which a page of this name asks; how that ends is put to the outcomes."""
+        def judge():
             try:
                 page.ask_judge({'script': '', 'page': owner})
             except Exception as error:
                 outcomes.append(type(error).__name__)
-        first = threading.Thread(target=judge, args=('one',))
-        first.start()
-        time.sleep(0.15)
-        judge('two')
-        first.join()
-        self.assertEqual(outcomes, ['TooMany', 'Fault'])
+        thread = threading.Thread(target=judge)
+        thread.start()
+        return thread
+
+    def until(self, is_so):
+        limit = time.monotonic() + 300
+        while not is_so():
+            self.assertLess(time.monotonic(), limit)
+            time.sleep(0.01)
+
+    def test_at_most_eight_programs_at_once(self):
+        page, outcomes = Page(seconds=600), []
+        threads = [self.judging(page, str(number), outcomes) for number in range(8)]
+        self.until(lambda: len(page.programs.running) == 8)
+        self.judging(page, 'one more', outcomes).join()
+        self.assertEqual(outcomes, ['TooMany'])
+        self.assertEqual(len(page.programs.running), 8)
+        page.programs.end_all()
+        for thread in threads:
+            thread.join()
+        self.assertEqual(outcomes, ['TooMany'] + 8 * ['Fault'])
+        self.assertFalse(page.programs.running)
+
+    def test_a_program_has_twenty_seconds(self):
+        self.assertEqual(Page().programs.seconds, 20)
+        page = Page(seconds=0.3)
+        with self.assertRaises(Fault) as raised:
+            page.ask_judge({'script': '', 'page': 'one'})
+        self.assertEqual(raised.exception.status, TOO_LATE)
         self.assertFalse(page.programs.running)
 
     def test_a_page_that_asks_again_ends_its_program(self):
-        page, outcomes = Page(seconds=1), []
-
-        def judge():
-            try:
-                page.ask_judge({'script': '', 'page': 'one'})
-            except Exception as error:
-                outcomes.append(type(error).__name__)
-        threads = [threading.Thread(target=judge) for _ in range(2)]
-        for thread in threads:
-            thread.start()
-            time.sleep(0.2)
-        for thread in threads:
-            thread.join()
+        page, outcomes = Page(seconds=600), []
+        first = self.judging(page, 'one', outcomes)
+        self.until(lambda: page.programs.running)
+        second = self.judging(page, 'one', outcomes)
+        first.join()
+        self.assertEqual(outcomes, ['Superseded'])
+        page.programs.end_all()
+        second.join()
         self.assertEqual(outcomes, ['Superseded', 'Fault'])
 
 
 class Ends(unittest.TestCase):
     def test_when_the_server_ends(self):
+        self.assertEqual(CLOSED_SECONDS, 300)
         page, now = Page(), time.monotonic()
         self.assertFalse(page.is_over(now + UNOPENED_SECONDS - 5))
+        page.empty_since = now
         self.assertTrue(page.is_over(now + UNOPENED_SECONDS + 5))
         page.hear('one')
-        self.assertFalse(page.is_over(now + SILENT_SECONDS - 5))
+        heard = page.heard['one']
+        self.assertFalse(page.is_over(heard + SILENT_SECONDS - 5))
         page.forget('one')
-        self.assertFalse(page.is_over(now + CLOSED_SECONDS - 5))
-        self.assertTrue(page.is_over(now + CLOSED_SECONDS + 5))
+        self.assertFalse(page.is_over(page.empty_since + CLOSED_SECONDS - 5))
+        self.assertTrue(page.is_over(page.empty_since + CLOSED_SECONDS + 5))
+
+    def test_it_ends_by_itself_once_its_last_page_is_closed(self):
+        server = Server(Page())
+        server.page.hear('one')
+        thread = threading.Thread(target=server.serve_forever, daemon=True)
+        thread.start()
+        server.page.forget('one')
+        server.page.empty_since -= CLOSED_SECONDS + 1
+        thread.join(300)
+        self.assertFalse(thread.is_alive())
+        server.server_close()
+
+    def test_ctrl_c_ends_it(self):
+        with Terminal('draw', '--no-browser') as terminal:
+            address = terminal.until(r'^http://127\.0\.0\.1:\d+/\S+/$').strip()
+            with urllib.request.urlopen(address, timeout=300) as answer:
+                self.assertIn(b'<!DOCTYPE html>', answer.read())
+            terminal.type('\x03')
+            self.assertEqual(terminal.status(), 0)
+        with self.assertRaises(urllib.error.URLError):
+            urllib.request.urlopen(address, timeout=300)
 
 
 class Changes(unittest.TestCase):

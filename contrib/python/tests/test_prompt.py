@@ -9,7 +9,7 @@ import unittest
 
 from bukshena import process
 from bukshena.session import Session
-from tests.terminal import Terminal, environment
+from tests.terminal import Terminal, environment, is_gone
 
 FREE = ('point A 0 0', 'point B 1 0', 'point C 0 1')
 CTRL_C, CTRL_D, TAB, UP = '\x03', '\x04', '\t', '\x1b[A'
@@ -65,6 +65,7 @@ class AtTerminal(unittest.TestCase):
         terminal = self.prompt()
         terminal.type('point Z 9 9')
         terminal.until('point Z 9 9')
+        terminal.pause()
         terminal.type(CTRL_C)
         terminal.until(r'^1> ')
         self.assertIn('ok', terminal.ask('point A 0 0'))
@@ -224,8 +225,7 @@ class AtTerminal(unittest.TestCase):
             terminal.until('still at work')
             os.kill(terminal.pid, number)
             self.assertEqual(terminal.status(), 128 + number)
-            with self.assertRaises(ProcessLookupError):
-                os.kill(program, 0)
+            self.assertTrue(is_gone(program))
 
     def test_nothing_is_left_behind(self):
         terminal = self.prompt()
@@ -233,8 +233,7 @@ class AtTerminal(unittest.TestCase):
         program = self.program_of(terminal)
         terminal.ask('quit', 'quit')
         self.assertEqual(terminal.status(), 0)
-        with self.assertRaises(ProcessLookupError):
-            os.kill(program, 0)
+        self.assertTrue(is_gone(program))
 
 
 class WithoutTerminal(unittest.TestCase):

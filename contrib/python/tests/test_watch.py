@@ -3,7 +3,7 @@ import tempfile
 import time
 import unittest
 
-from tests.terminal import Terminal
+from tests.terminal import SECONDS, Terminal
 
 TRUE = 'point A 0 0\npoint B 4 2\njoin l A B\non P l 2\nclaim collinear A B P\nscreen\n'
 CTRL_C = '\x03'
@@ -27,7 +27,7 @@ class Watch(unittest.TestCase):
         return terminal
 
     def wait_for(self, path, text):
-        limit = time.monotonic() + 30
+        limit = time.monotonic() + SECONDS
         while time.monotonic() < limit:
             if os.path.exists(path):
                 with open(path, encoding='utf-8') as file:
@@ -64,7 +64,7 @@ class Watch(unittest.TestCase):
         begun = time.monotonic()
         self.write(TRUE + '\n')
         terminal.until(r'^\d\d:\d\d:\d\d .*f\.txt')
-        self.assertLess(time.monotonic() - begun, 5)
+        self.assertLess(time.monotonic() - begun, 60)
 
     def test_another_picture(self):
         path = self.picture.replace('f.svg', 'other.svg')

@@ -1,7 +1,6 @@
 -- What is made of the lines to come, each of which may be a certificate, and what that is for the whole program.
-use Rattle.std.proofs.Common.{◌≡◌, ◌∙◌, sym, ap, subst, refl, ℕ, ◌++◌, Bool, false, ◌||◌, Option, List, [], ◌∷◌, take, map, append_assoc, append-nil}
+use Rattle.std.proofs.Common.{◌≡◌, ◌∙◌, sym, ap, subst, refl, ℕ, ◌++◌, Bool, false, ◌||◌, Option, List, [], ◌∷◌, take, map, append-nil}
 use Rattle.std.specs.Io.KnownBytes.{Appends}
-use Rattle.std.proofs.KnownBytes.{Appends-nil}
 use Rattle.std.proofs.lemmas.Grind.{flat_map-append}
 use Rattle.std.proofs.lemmas.List.Folds.{list_any-append}
 use Rattle.geo_checker.specs.Answers.{Answered, answer_text, answered, answers_to, has_invalid, is_invalid, text_of}
@@ -10,11 +9,10 @@ use Rattle.geo_io.specs.Lines.{lines_of, whole_lines_of}
 use Rattle.geo_io.specs.Pieces.{AppendsFront}
 use Rattle.geo_view.specs.declared.shown.ViewKind.{ViewKind}
 use Rattle.geo_app.specs.Checking.{check_course}
-use Rattle.geo_app.specs.Courses.{Course, Takes, IsCarriedOut}
+use Rattle.geo_app.specs.Courses.{Course, Takes, IsCarriedOut, IsLastReply, IsReplied}
 use Rattle.geo_app.specs.declared.program.Outcome.{Outcome}
 use Rattle.geo_app.specs.declared.task.Task.TheVariants.{Check}
 use Rattle.geo_app.specs.Outcomes.{Headline}
-use Rattle.geo_app.proofs.PlaceTexts.{or_assoc, or_false}
 
 text_first : (line : List ℕ) (lines : List (List ℕ)) → text_of (answered (line ∷ lines)) ≡ text_of (answers_to line) ++ text_of (answered lines)
 text_first line lines = flat_map-append (λ (a : Answered). answer_text a.answer) (answers_to line) (answered lines)
@@ -22,39 +20,30 @@ text_first line lines = flat_map-append (λ (a : Answered). answer_text a.answer
 invalid_first : (line : List ℕ) (lines : List (List ℕ)) → has_invalid (answered (line ∷ lines)) ≡ (has_invalid (answers_to line) || has_invalid (answered lines))
 invalid_first line lines = list_any-append (λ (a : Answered). is_invalid a.answer) (answers_to line) (answered lines)
 
-takes_line : (line : List ℕ) (invalid found either : Bool) → found ≡ has_invalid (answers_to line) → either ≡ (invalid || found) → Takes (check_course invalid) (check_course either) line (text_of (answers_to line))
-takes_line line invalid found either is joined = record {
+takes_line : (line : List ℕ) (invalid : Bool) → invalid ≡ has_invalid (answers_to line) → Takes check_course check_course line invalid (text_of (answers_to line))
+takes_line line invalid is = record {
   text = λ lines. text_first line lines;
   meanwhile = λ lines. text_first line lines;
-  refuses = λ lines. ap (λ b. invalid || b) (invalid_first line lines) ∙ or_assoc invalid (has_invalid (answers_to line)) (has_invalid (answered lines)) ∙ ap (λ b. b || has_invalid (answered lines)) (ap (λ b. invalid || b) (sym is) ∙ sym joined);
+  refuses = λ lines. invalid_first line lines ∙ ap (λ b. b || has_invalid (answered lines)) (sym is);
   silent = refl;
 }
 
 -- a line was checked
-pub line_checked : (line : List ℕ) (invalid found either : Bool) (held held' : Option (List ℕ)) → Appends held held' (text_of (answers_to line)) → found ≡ has_invalid (answers_to line) → either ≡ (invalid || found)
-    → (course : Course) → course ≡ check_course invalid → (next : Course) × (next ≡ check_course either) × ((written : List ℕ) × Appends held held' written × Takes course next line written)
-line_checked line invalid found either held held' writes is joined course goes =
+pub line_checked : (line before after : List ℕ) (invalid : Bool) → after ≡ before ++ text_of (answers_to line) → invalid ≡ has_invalid (answers_to line)
+    → (course : Course) → course ≡ check_course → IsReplied (λ (c : Course). c ≡ check_course) course line invalid before after
+line_checked line before after invalid appends is course goes =
     let text = text_of (answers_to line) in (
-      check_course either,
+      check_course,
       refl,
-      (text, writes, subst (λ (c : Course). Takes c (check_course either) line text) (sym goes) (takes_line line invalid found either is joined)),
+      (text, appends, subst (λ (c : Course). Takes c check_course line invalid text) (sym goes) (takes_line line invalid is)),
     )
 
--- or its answer was written in part
-pub line_cut : (line : List ℕ) (invalid : Bool) (held held' : Option (List ℕ)) → AppendsFront held held' (text_of (answers_to line)) → (course : Course) (lines : List (List ℕ)) → course ≡ check_course invalid → AppendsFront held held' (course.text (line ∷ lines))
-line_cut line invalid held held' (front, rest, is, appends) course lines goes = (
-  front,
-  rest ++ text_of (answered lines),
-  ap (λ (c : Course). c.text (line ∷ lines)) goes ∙ text_first line lines ∙ ap (λ l. l ++ text_of (answered lines)) is ∙ append_assoc front rest (text_of (answered lines)),
-  appends,
-)
-
 -- at the end nothing more is written
-pub over : (invalid : Bool) (held : Option (List ℕ)) (course : Course) → course ≡ check_course invalid → Appends held held (course.text []) × (invalid ≡ course.refuses [])
-over invalid held course goes = (subst (λ (l : List ℕ). Appends held held l) (sym (ap (λ (c : Course). c.text []) goes)) (Appends-nil held), sym (or_false invalid) ∙ sym (ap (λ (c : Course). c.refuses []) goes))
+pub over : (held : List ℕ) (course : Course) → course ≡ check_course → IsLastReply course false held held
+over held course goes = (sym (append-nil held) ∙ ap (λ l. held ++ l) (sym (ap (λ (c : Course). c.text []) goes)), sym (ap (λ (c : Course). c.refuses []) goes))
 
 -- what was made of lines that were cut is what the lines make
-pub certificates_checked : (kinds : List ViewKind) (workers : ℕ) (outcome : Outcome) (taken : List ℕ) (left before after : Option (List ℕ)) → IsCarriedOut (check_course false) 65537 outcome taken left before after
+pub certificates_checked : (kinds : List ViewKind) (workers : ℕ) (outcome : Outcome) (taken : List ℕ) (left before after : Option (List ℕ)) → IsCarriedOut check_course 65537 outcome taken left before after
     → ((lines : List (List ℕ)) → text_of (answered (map (take 65537) lines)) ≡ text_of (answered lines)) → ((lines : List (List ℕ)) → has_invalid (answered (map (take 65537) lines)) ≡ has_invalid (answered lines)) → AreRight (answered (lines_of taken))
     → Headline kinds Check workers outcome taken left before after
 certificates_checked kinds workers outcome taken left before after carried alike invalid_alike right =

@@ -5,6 +5,7 @@ mod BatchSheets
 mod BoxedViews
 mod Carried
 mod CertificateCourses
+mod CertifiedLaws
 mod Endings
 mod LongJobs
 mod LongLines

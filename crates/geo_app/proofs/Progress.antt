@@ -1,5 +1,5 @@
 -- Lines that were carried out, as far as some line.
-use Rattle.std.proofs.Common.{◌≡◌, ◌∙◌, sym, ap, subst, refl, inl, inr, ◌⊎◌, ℕ, ◌+◌, ◌++◌, Bool, true, false, Option, List, [], ◌∷◌, length, take, map, append_assoc, arith}
+use Rattle.std.proofs.Common.{◌≡◌, ◌∙◌, sym, ap, subst, refl, inl, inr, ◌⊎◌, ℕ, ◌+◌, ◌++◌, Bool, true, false, ◌||◌, Option, List, [], ◌∷◌, length, take, map, append_assoc, arith}
 use Rattle.std.specs.Io.KnownBytes.{Appends, Consumes}
 use Rattle.std.proofs.KnownBytes.{Appends-nil, Appends-trans, Consumes-nil, Consumes-trans}
 use Rattle.std.proofs.lemmas.List.{append-nil}
@@ -10,9 +10,11 @@ use Rattle.geo_io.specs.Taking.{Taking, first_taking, lines_left, CanFollow, IsR
 use Rattle.geo_io.specs.Taking as taking
 use Rattle.geo_io.proofs.WholeLines.{whole_lines_given}
 use Rattle.geo_app.specs.Courses.{Course, Takes}
+use Rattle.geo_app.proofs.PlaceTexts.{or_assoc}
 
--- these lines were given of the bytes that were taken, these bytes were written for them, and what is to come is the rest
-pub record Progress (course : Course) (limit : ℕ) (lines : Taking) (Goes : Course → Type 0) (first left before held : Option (List ℕ)) : Type 0 where
+-- these lines were given of the bytes that were taken, these bytes were written for them, it is told whether something in
+-- these is a refusal, and what is to come is the rest
+pub record Progress (course : Course) (limit : ℕ) (lines : Taking) (Goes : Course → Type 0) (refused : Bool) (first left before held : Option (List ℕ)) : Type 0 where
   pub next : Course
   pub goes : Goes next
   pub taken : List ℕ
@@ -25,10 +27,10 @@ pub record Progress (course : Course) (limit : ℕ) (lines : Taking) (Goes : Cou
   pub writes : Appends before held written
   pub text : (more : List (List ℕ)) → course.text (given ++ more) ≡ written ++ next.text more
   pub meanwhile : (more : List (List ℕ)) → course.meanwhile (given ++ more) ≡ written ++ next.meanwhile more
-  pub refuses : (more : List (List ℕ)) → course.refuses (given ++ more) ≡ next.refuses more
+  pub refuses : (more : List (List ℕ)) → course.refuses (given ++ more) ≡ (refused || next.refuses more)
   pub silent : next.meanwhile [] ≡ []
 
-pub begun : (course : Course) (limit : ℕ) (Goes : Course → Type 0) (first before : Option (List ℕ)) → Goes course → course.meanwhile [] ≡ [] → Progress course limit (first_taking limit) Goes first first before before
+pub begun : (course : Course) (limit : ℕ) (Goes : Course → Type 0) (first before : Option (List ℕ)) → Goes course → course.meanwhile [] ≡ [] → Progress course limit (first_taking limit) Goes false first first before before
 begun course limit Goes first before goes silent = record {
   next = course;
   goes = goes;
@@ -54,7 +56,7 @@ can_take lines bytes (inr asked) = λ ended. absurd (both lines.ended ended aske
     both : (b : Bool) → b ≡ true → b ≡ false → ⊥
     both b is other = grind (arith, is, other)
 
-module _ (course : Course) (limit : ℕ) (lines after : Taking) (Goes : Course → Type 0) (first left left_after before held : Option (List ℕ)) (p : Progress course limit lines Goes first left before held) (bytes : List ℕ) (consumes : Consumes left left_after bytes) (takes : taking.Takes lines after bytes) where
+module _ (course : Course) (limit : ℕ) (lines after : Taking) (Goes : Course → Type 0) (refused : Bool) (first left left_after before held : Option (List ℕ)) (p : Progress course limit lines Goes refused first left before held) (bytes : List ℕ) (consumes : Consumes left left_after bytes) (takes : taking.Takes lines after bytes) where
   -- what was taken in all
   pub all_taken : List ℕ
   all_taken = p.taken ++ bytes
@@ -97,7 +99,7 @@ module _ (course : Course) (limit : ℕ) (lines after : Taking) (Goes : Course �
   pub end_written : (held_after : Option (List ℕ)) → GivesNone lines after bytes → Appends held held_after (p.next.text []) → Appends before held_after (course.text (cut_lines_of limit all_taken))
   end_written held_after none appends = subst (λ (l : List ℕ). Appends before held_after l) (sym (end_text none)) (Appends-trans before held held_after p.written (p.next.text []) p.writes appends)
 
-  pub end_refused : GivesNone lines after bytes → course.refuses (cut_lines_of limit all_taken) ≡ p.next.refuses []
+  pub end_refused : GivesNone lines after bytes → course.refuses (cut_lines_of limit all_taken) ≡ (refused || p.next.refuses [])
   end_refused none = ap course.refuses (all_lines ∙ ap (λ l. p.given ++ l) none.none) ∙ p.refuses []
 
   pub end_stopped : (held_after : Option (List ℕ)) → GivesNone lines after bytes → AppendsFront held held_after (p.next.text []) → AppendsFront before held_after (course.text (cut_lines_of limit all_taken))
@@ -119,9 +121,10 @@ module _ (course : Course) (limit : ℕ) (lines after : Taking) (Goes : Course �
       )
 
   -- a line was given, and its reply was written
-  pub line_done : (GoesOn : Course → Type 0) (held_after : Option (List ℕ)) (line : List ℕ) (next : Course) (written : List ℕ) → GivesLine lines after bytes line → GoesOn next → Appends held held_after written → Takes p.next next line written → Progress course limit after GoesOn first left_after before held_after
+  pub line_done : (GoesOn : Course → Type 0) (more refused' : Bool) (held_after : Option (List ℕ)) (line : List ℕ) (next : Course) (written : List ℕ) → GivesLine lines after bytes line → refused' ≡ (refused || more) → GoesOn next → Appends held held_after written → Takes p.next next line more written
+      → Progress course limit after GoesOn refused' first left_after before held_after
   unfolding all_taken
-  line_done GoesOn held_after line next written gives goes appends took = record {
+  line_done GoesOn more refused' held_after line next written gives either goes appends took = record {
     next = next;
     goes = goes;
     taken = all_taken;
@@ -132,9 +135,11 @@ module _ (course : Course) (limit : ℕ) (lines after : Taking) (Goes : Course �
     gives = λ rest can. ap (cut_lines_of limit) (append_assoc p.taken bytes rest) ∙ p.gives (bytes ++ rest) (can_more rest can) ∙ ap (λ l. p.given ++ l) (gives rest can) ∙ sym (append_assoc p.given (line ∷ []) (lines_left after rest));
     written = p.written ++ written;
     writes = Appends-trans before held held_after p.written written p.writes appends;
-    text = λ more. ap course.text (append_assoc p.given (line ∷ []) more) ∙ p.text (line ∷ more) ∙ ap (λ l. p.written ++ l) (took.text more) ∙ sym (append_assoc p.written written (next.text more));
-    meanwhile = λ more. ap course.meanwhile (append_assoc p.given (line ∷ []) more) ∙ p.meanwhile (line ∷ more) ∙ ap (λ l. p.written ++ l) (took.meanwhile more) ∙ sym (append_assoc p.written written (next.meanwhile more));
-    refuses = λ more. ap course.refuses (append_assoc p.given (line ∷ []) more) ∙ p.refuses (line ∷ more) ∙ took.refuses more;
+    text = λ lines. ap course.text (append_assoc p.given (line ∷ []) lines) ∙ p.text (line ∷ lines) ∙ ap (λ l. p.written ++ l) (took.text lines) ∙ sym (append_assoc p.written written (next.text lines));
+    meanwhile = λ lines. ap course.meanwhile (append_assoc p.given (line ∷ []) lines) ∙ p.meanwhile (line ∷ lines) ∙ ap (λ l. p.written ++ l) (took.meanwhile lines) ∙ sym (append_assoc p.written written (next.meanwhile lines));
+    refuses = λ lines.
+        ap course.refuses (append_assoc p.given (line ∷ []) lines) ∙ p.refuses (line ∷ lines) ∙ ap (λ b. refused || b) (took.refuses lines) ∙ or_assoc refused more (next.refuses lines)
+        ∙ ap (λ b. b || next.refuses lines) (sym either);
     silent = took.silent;
   }
     where

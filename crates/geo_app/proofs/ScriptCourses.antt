@@ -1,72 +1,65 @@
 -- What a script makes of the lines to come, line by line, and what that is for the whole program.
-use Rattle.std.proofs.Common.{◌≡◌, ◌∙◌, sym, ap, subst, refl, ℕ, ◌++◌, Bool, false, ◌||◌, Option, List, [], ◌∷◌, take, map, append_assoc}
+use Rattle.std.proofs.Common.{◌≡◌, ◌∙◌, sym, ap, subst, refl, ℕ, ◌++◌, Bool, false, ◌||◌, Option, List, [], take, map, append-nil}
+use Rattle.std.specs.Prelude.{Result, Ok, Err, IfOk}
 use Rattle.std.specs.Io.KnownBytes.{Appends}
-use Rattle.std.proofs.KnownBytes.{Appends-nil}
 use Rattle.geo_io.specs.Lines.{lines_of, whole_lines_of}
 use Rattle.geo_io.specs.Pieces.{AppendsFront}
 use Rattle.geo_view.specs.declared.shown.ViewKind.{ViewKind}
 use Rattle.geo_view.specs.Sights.{Sight}
 use Rattle.geo_session.specs.Printed.{AreTrue, text_of}
+use Rattle.geo_sketch.specs.declared.changes.NoMemory.{NoMemory}
 use Rattle.geo_script.specs.declared.script.Script.{Script}
-use Rattle.geo_script.specs.Places.{Place, StandsAt, beginning, place_after, printed_at, refuses_at}
+use Rattle.geo_session.specs.Standing.{StandsFor}
+use Rattle.geo_script.specs.Places.{AreCarriedOut, Place, StandsAt, beginning, given_at, place_after, printed_at, refuses_at}
 use Rattle.geo_script.proofs.PlaceLaws.{refuses_next}
 use Rattle.geo_app.specs.declared.program.Outcome.{Outcome}
 use Rattle.geo_app.specs.declared.task.Task.TheVariants.{Run}
-use Rattle.geo_app.specs.Courses.{Course, Takes, IsCarriedOut}
+use Rattle.geo_app.specs.Courses.{Course, Takes, IsCarriedOut, IsLastReply, IsReplied}
 use Rattle.geo_app.specs.Outcomes.{Headline}
 use Rattle.geo_app.specs.Output.{printed}
-use Rattle.geo_app.specs.Scripts.{script_course}
-use Rattle.geo_app.specs.Steps.{IsTaken, reply_text, reply_refuses}
-use Rattle.geo_app.proofs.PlaceTexts.{no_reply, none_refused, or_assoc, or_false, reply_first}
+use Rattle.geo_app.specs.Scripts.{ScriptGoes, script_course}
+use Rattle.geo_app.specs.Steps.{reply_text, reply_refuses}
+use Rattle.geo_app.proofs.PlaceTexts.{no_reply, none_refused, reply_first}
 
--- where a script stands, with what was refused before
-abbrev pub GoesSo : {W : Type 0} → (W → List (Option Sight)) → Script W → Bool → Course → Type 0
-GoesSo shows script refused course = (place : Place) × StandsAt shows script place × (course ≡ script_course place refused)
+pub silent : (place : Place) → (script_course place).meanwhile [] ≡ []
+silent place = no_reply place
 
-pub silent : (place : Place) (refused : Bool) → (script_course place refused).meanwhile [] ≡ []
-silent place refused = no_reply place
-
-takes_line : (place : Place) (line : List ℕ) (refused more refused' : Bool) → more ≡ reply_refuses place line → refused' ≡ (refused || more) → Takes (script_course place refused) (script_course (place_after place line) refused') line (reply_text place line)
-takes_line place line refused more refused' is either = record {
+takes_line : (place : Place) (line : List ℕ) (refused : Bool) → refused ≡ reply_refuses place line → Takes (script_course place) (script_course (place_after place line)) line refused (reply_text place line)
+takes_line place line refused is = record {
   text = λ lines. reply_first place line lines;
   meanwhile = λ lines. reply_first place line lines;
-  refuses = λ lines.
-      let later = refuses_at (place_after place line) lines in
-      ap (λ b. refused || b) (refuses_next place line lines) ∙ or_assoc refused (reply_refuses place line) later ∙ ap (λ b. b || later) (ap (λ b. refused || b) (sym is) ∙ sym either);
+  refuses = λ lines. refuses_next place line lines ∙ ap (λ b. b || refuses_at (place_after place line) lines) (sym is);
   silent = no_reply (place_after place line);
 }
 
 -- a line was carried out
-pub line_taken : {W : Type 0} (shows : W → List (Option Sight)) (script script' : Script W) (refused more refused' : Bool) (line : List ℕ) (held held' : Option (List ℕ)) → ((place : Place) → StandsAt shows script place → IsTaken shows place line more held held' script') → refused' ≡ (refused || more)
-    → (course : Course) → GoesSo shows script refused course → (next : Course) × GoesSo shows script' refused' next × ((written : List ℕ) × Appends held held' written × Takes course next line written)
-line_taken shows script script' refused more refused' line held held' taken either course (place, stands, is) =
-    let t = taken place stands in
-    let next = script_course (place_after place line) refused' in
+pub line_taken : {W : Type 0} (shows : W → List (Option Sight)) (script script' : Script W) (refused : Bool) (line before after : List ℕ) → ((place : Place) → StandsAt shows script place → AreCarriedOut place.state (given_at place line) refused before after (StandsFor shows script'.session))
+    → ((place : Place) → StandsAt shows script place → StandsAt shows script' (place_after place line)) → (course : Course) → ScriptGoes shows script course → IsReplied (ScriptGoes shows script') course line refused before after
+line_taken shows script script' refused line before after carried stands course (place, at, is) =
+    let done = carried place at in
+    let next = script_course (place_after place line) in
     let text = reply_text place line in (
       next,
-      (place_after place line, t.stands, refl),
-      (text, t.writes, subst (λ (c : Course). Takes c next line text) (sym is) (takes_line place line refused more refused' t.refuses either)),
+      (place_after place line, stands place at, refl),
+      (text, done.appends, subst (λ (c : Course). Takes c next line refused text) (sym is) (takes_line place line refused done.refuses)),
     )
 
--- or its reply was written in part
-pub line_cut : {W : Type 0} (shows : W → List (Option Sight)) (script : Script W) (refused : Bool) (line : List ℕ) (held held' : Option (List ℕ)) → ((place : Place) → StandsAt shows script place → AppendsFront held held' (reply_text place line))
-    → (course : Course) (lines : List (List ℕ)) → GoesSo shows script refused course → AppendsFront held held' (course.text (line ∷ lines))
-line_cut shows script refused line held held' front course lines (place, stands, is) =
-    let f = front place stands in
-    let later = text_of (printed_at (place_after place line) lines) in (
-      f.0,
-      f.1 ++ later,
-      ap (λ (c : Course). c.text (line ∷ lines)) is ∙ reply_first place line lines ∙ ap (λ l. l ++ later) f.2 ∙ append_assoc f.0 f.1 later,
-      f.3,
-    )
+-- where memory was there
+pub script_taken : {W : Type 0} (shows : W → List (Option Sight)) (script script' : Script W) (line before after : List ℕ) (result : Result Bool NoMemory)
+    → IfOk result (λ refused. (place : Place) → StandsAt shows script place → AreCarriedOut place.state (given_at place line) refused before after (StandsFor shows script'.session)) → IfOk result (λ refused. (place : Place) → StandsAt shows script place → StandsAt shows script' (place_after place line))
+    → IfOk result (λ refused. (course : Course) → ScriptGoes shows script course → IsReplied (ScriptGoes shows script') course line refused before after)
+script_taken shows script script' line before after (Ok refused) carried stands = λ course goes. line_taken shows script script' refused line before after carried stands course goes
+script_taken shows script script' line before after (Err stop) carried stands = tt
 
 -- at the end nothing more is written
-pub over : {W : Type 0} (shows : W → List (Option Sight)) (script : Script W) (refused : Bool) (held : Option (List ℕ)) (course : Course) → GoesSo shows script refused course → Appends held held (course.text []) × (refused ≡ course.refuses [])
-over shows script refused held course (place, stands, is) =
-    (subst (λ (l : List ℕ). Appends held held l) (sym (ap (λ (c : Course). c.text []) is ∙ no_reply place)) (Appends-nil held), sym (or_false refused) ∙ ap (λ b. refused || b) (sym (none_refused place)) ∙ sym (ap (λ (c : Course). c.refuses []) is))
+pub over : {W : Type 0} (shows : W → List (Option Sight)) (script : Script W) (held : List ℕ) (course : Course) → ScriptGoes shows script course → IsLastReply course false held held
+over shows script held course (place, at, is) = (
+  sym (append-nil held) ∙ ap (λ l. held ++ l) (sym (ap (λ (c : Course). c.text []) is ∙ no_reply place)),
+  sym (ap (λ (c : Course). c.refuses []) is ∙ none_refused place),
+)
 
 -- what was carried out of a script, whose lines were cut, is what its lines make
-pub script_carried : (kinds : List ViewKind) (workers : ℕ) (outcome : Outcome) (taken : List ℕ) (left before after : Option (List ℕ)) → IsCarriedOut (script_course (beginning kinds) false) 201 outcome taken left before after
+pub script_carried : (kinds : List ViewKind) (workers : ℕ) (outcome : Outcome) (taken : List ℕ) (left before after : Option (List ℕ)) → IsCarriedOut (script_course (beginning kinds)) 201 outcome taken left before after
     → ((lines : List (List ℕ)) → printed_at (beginning kinds) (map (take 201) lines) ≡ printed_at (beginning kinds) lines) → ((lines : List (List ℕ)) → refuses_at (beginning kinds) (map (take 201) lines) ≡ refuses_at (beginning kinds) lines) → AreTrue (printed kinds Run taken)
     → Headline kinds Run workers outcome taken left before after
 script_carried kinds workers outcome taken left before after carried alike refused_alike true_verdicts =

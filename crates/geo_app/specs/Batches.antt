@@ -5,6 +5,7 @@ use Rattle.std.specs.List.{list_any, slice_split, sum_by}
 use Rattle.std.specs.Str.{bytes_eq}
 use Rattle.geo_session.specs.Printed.{Piece, Text}
 use Rattle.geo_script.specs.Places.{beginning, printed_at, refuses_at}
+use Rattle.geo_app.specs.declared.limits.TheConstants.{JOB_SIZE_LIMIT}
 
 -- a job: the lines of a script
 abbrev pub JobLines : Type 0
@@ -38,7 +39,7 @@ job_size job = sum_by (λ line. length line + 1) job
 
 -- a job of more than 65,536 bytes
 unfoldable pub is_large : JobLines → Bool
-is_large job = nat_lt 65536 (job_size job)
+is_large job = nat_lt JOB_SIZE_LIMIT (job_size job)
 
 abbrev pub refused_job : List ℕ
 refused_job = codes "refused job\n"

@@ -6,6 +6,8 @@ pub mod Outcomes
 pub mod Courses
 pub mod Scripts
 pub mod Checking
+pub mod Certified
+pub mod Answering
 pub mod Steps
 pub mod Batches
 pub mod Sheets

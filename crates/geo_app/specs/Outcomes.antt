@@ -9,6 +9,7 @@ use Rattle.geo_app.specs.declared.program.Outcome.TheVariants.{Done, SomeRefused
 use Rattle.geo_app.specs.declared.task.Task.{Task}
 use Rattle.geo_app.specs.declared.task.Task.TheVariants.{Run, Check, Generate, Batch}
 use Rattle.geo_app.specs.Output.{output_of, output_at_fault, printed, AreRightAnswers, HasRefusal}
+use Rattle.geo_io.specs.declared.limits.TheConstants.{INPUT_LIMIT}
 
 -- the exit status of an outcome
 abbrev pub status_of : Outcome → ℕ
@@ -49,7 +50,7 @@ pub record Headline (kinds : List ViewKind) (task : Task) (workers : ℕ) (outco
   -- batch the outputs of the whole rounds of jobs among them
   pub read_fault : (outcome ≡ ReadFault) → Appends before after (output_at_fault kinds task workers taken)
   -- TooLong: exactly where more than 2^24 bytes were taken
-  pub too_long : (outcome ≡ TooLong) ↔ (2 ^ 24 < length taken)
+  pub too_long : (outcome ≡ TooLong) ↔ (INPUT_LIMIT < length taken)
   -- whatever the outcome is, every verdict in the output is true
   pub true_verdicts : AreTrue (printed kinds task taken)
   -- and every answer to a certificate is right: what a valid one says of its claim is true

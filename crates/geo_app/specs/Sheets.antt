@@ -4,6 +4,7 @@ use Rattle.std.specs.List.{flat_map, list_any}
 use Rattle.geo_session.specs.Printed.{text_of}
 use Rattle.geo_script.specs.Places.{beginning, printed_at, refuses_at}
 use Rattle.geo_app.specs.Batches.{JobLines, is_large, job_line, job_size, refused_job}
+use Rattle.geo_app.specs.declared.limits.TheConstants.{JOB_SIZE_LIMIT}
 
 -- its number; its lines, and how many bytes it may still have: none where it had too many, and then no line is kept; once
 -- it has run, what is written for it, and whether it or a line of it was refused
@@ -19,7 +20,7 @@ abbrev pub sheet_of : ℕ → JobLines → Sheet
 sheet_of number job = record {
   number = number;
   lines = if is_large job then [] else job;
-  room = if is_large job then None else Some (65536 - job_size job);
+  room = if is_large job then None else Some (JOB_SIZE_LIMIT - job_size job);
   text = [];
   refused = false;
 }

@@ -10,6 +10,7 @@ use Rattle.std.specs.declared.string.String.{String}
 use Rattle.geo_app.specs.declared.task.Request.{Request}
 use Rattle.geo_app.specs.declared.task.Task.{Task}
 use Rattle.geo_app.specs.declared.task.Task.TheVariants.{Run, Check, Generate, Batch}
+use Rattle.geo_board.specs.declared.limits.TheConstants.{WORKER_LIMIT}
 
 -- one digit or more, and no zero before others; 48 is `0`
 abbrev pub is_numeral : List ℕ → Bool
@@ -24,7 +25,7 @@ number_of word = if is_numeral word && nat_lt (digits_value 10 word) (2 ^ 32) th
 -- the one from 1 to 16
 abbrev pub count_of : Option ℕ → Option ℕ
 count_of None = None
-count_of (Some count) = if nat_le 1 count && nat_le count 16 then Some count else None
+count_of (Some count) = if nat_le 1 count && nat_le count WORKER_LIMIT then Some count else None
 
 abbrev pub workers_in : List ℕ → Option ℕ
 workers_in word = count_of (number_of word)

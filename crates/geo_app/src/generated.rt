@@ -10,6 +10,7 @@ ghost use Rattle.geo_session.specs.Answers.{State, start, answer_of};
 ghost use Rattle.geo_session.specs.Standing.{StandsFor};
 ghost use Rattle.geo_app.specs.Generated.{answered_from, asks_text, generated_text, lines_that_begin, tally_of};
 ghost use Rattle.geo_app.specs.Counting.{IsCounted};
+ghost use Rattle.geo_board.specs.declared.limits.TheConstants.{WORKER_LIMIT};
 
 use geo_gen::{Tally, script, summary};
 use geo_io::{Sink, SinkEnd, split_line, write_all};
@@ -38,7 +39,7 @@ pub(crate) fn run_generated<R: Threads + Sync, K: Sink, G: Gate + Sync>(
     sink: &mut K,
     gate: &G,
 ) -> Result<(), SinkEnd>
-    requires { (0 < workers) × (workers ≤ 16) }
+    requires { (0 < workers) × (workers ≤ WORKER_LIMIT) }
     ensures all { OnOk result (Appends (K.held sink.old) (K.held sink.new) (generated_text seed)) }
     ensures front { OnErr result (AppendsFront (K.held sink.old) (K.held sink.new) (generated_text seed)) }
     ensures counts { K.fault_count sink.old ≤ K.fault_count sink.new }
@@ -58,7 +59,7 @@ fn summarise<R: Threads + Sync, G: Gate + Sync>(
     workers: u64,
     gate: &G,
 ) -> Result<Vec<u8>, NoMemory>
-    requires { (0 < workers) × (workers ≤ 16) }
+    requires { (0 < workers) × (workers ≤ WORKER_LIMIT) }
     ensures { IfOk result (λ line. line.items ≡ generated_text seed) }
 {
     let Ok(bytes) = script(alloc, seed) else {
@@ -80,7 +81,7 @@ fn count_answers<R: Threads + Sync, G: Gate + Sync>(
     workers: u64,
     gate: &G,
 ) -> Result<Tally, NoMemory>
-    requires { (0 < workers) × (workers ≤ 16) }
+    requires { (0 < workers) × (workers ≤ WORKER_LIMIT) }
     ensures { IfOk result (λ tally. tally ≡ tally_of (answered_from (start []) (lines_of bytes.now))) }
 {
     let mut session = Session::new(alloc, NoViews, workers);

@@ -2,43 +2,21 @@
 //! draws.
 #![tactic(auto)]
 
+mod answering;
 mod batch;
-#[cfg(test)]
-mod batches;
-mod batching;
 mod boxes;
 mod carrying;
-mod checks;
-#[cfg(test)]
-mod failing;
-#[cfg(test)]
-mod gates;
+mod certified;
 mod generated;
-#[cfg(test)]
-mod hostile;
-#[cfg(test)]
-mod ledgers;
+mod limits;
 mod long_jobs;
 mod long_lines;
 mod program;
 mod refusals;
-mod replies;
-#[cfg(test)]
-mod rows;
-#[cfg(test)]
-mod steps;
 mod task;
 #[cfg(test)]
-mod tools;
-#[cfg(test)]
-mod transcripts;
-#[cfg(test)]
-mod views;
-#[cfg(test)]
-mod words;
+mod tests;
 mod work;
-#[cfg(test)]
-mod zeros;
 
 use boxes::add_view;
 use geo_io::{ReadSource, Sink, Source, WriteSink};

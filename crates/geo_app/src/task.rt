@@ -5,6 +5,9 @@ ghost use Rattle.std.specs.Char.{is_ascii_digit};
 ghost use Rattle.std.specs.List.{list_all};
 ghost use Rattle.std.specs.String.{string_bytes};
 ghost use Rattle.geo_app.specs.Tasks.{is_numeral, number_of, request_of, task_of_word, task_with_seed, with_workers, workers_in};
+ghost use Rattle.geo_board.specs.declared.limits.TheConstants.{WORKER_LIMIT};
+
+use geo_board::WORKER_LIMIT;
 
 /// What the program is to do.
 #[derive(Clone, Copy, PartialEq, Eq, Debug)]
@@ -30,7 +33,7 @@ pub struct Request {
 /// What the words ask for; none where they are none that the program knows.
 pub(crate) fn request_of(words: &[String]) -> Option<Request>
     ensures request { result ≡ request_of words.now }
-    ensures few { IfSome result (λ r. (0 < r.workers) × (r.workers ≤ 16)) }
+    ensures few { IfSome result (λ r. (0 < r.workers) × (r.workers ≤ WORKER_LIMIT)) }
 {
     match words {
         [task] => with_workers(task_of_word(task), Some(1)),
@@ -46,9 +49,9 @@ pub(crate) fn request_of(words: &[String]) -> Option<Request>
 }
 
 fn with_workers(task: Option<Task>, workers: Option<u64>) -> Option<Request>
-    requires { IfSome workers (λ count. (0 < count) × (count ≤ 16)) }
+    requires { IfSome workers (λ count. (0 < count) × (count ≤ WORKER_LIMIT)) }
     ensures request { result ≡ with_workers task workers }
-    ensures few { IfSome result (λ r. (0 < r.workers) × (r.workers ≤ 16)) }
+    ensures few { IfSome result (λ r. (0 < r.workers) × (r.workers ≤ WORKER_LIMIT)) }
 {
     Some(Request {
         task: task?,
@@ -80,10 +83,10 @@ fn task_with_seed(word: &String, seed: &String) -> Option<Task>
 /// A count from 1 to 16.
 fn read_workers(word: &String) -> Option<u64>
     ensures count { result ≡ workers_in (string_bytes word.now) }
-    ensures few { IfSome result (λ count. (0 < count) × (count ≤ 16)) }
+    ensures few { IfSome result (λ count. (0 < count) × (count ≤ WORKER_LIMIT)) }
 {
     match read_number(word) {
-        Some(count) if (1..=16).contains(&count) => Some(u64::from(count)),
+        Some(count) if (1..=WORKER_LIMIT).contains(&u64::from(count)) => Some(u64::from(count)),
         _ => None,
     }
 }

@@ -6,6 +6,7 @@ ghost use Rattle.geo_script.specs.Places.{StandsAt, beginning, printed_at, refus
 ghost use Rattle.geo_app.specs.Batches.{job_line};
 ghost use Rattle.geo_app.specs.Sheets.{has_line, sheet_of, with_line};
 
+use crate::limits::JOB_SIZE_LIMIT;
 use crate::refusals::or_refused;
 use geo_batch::{Job, NoMemory};
 use geo_script::Script;
@@ -14,9 +15,6 @@ use geo_view::{NoViews, Views};
 use std::alloc::{AllocError, Global};
 use std::marker::Model;
 use std::thread::Threads;
-
-/// The most bytes that a job may have, each line with one for its end.
-const JOB_SIZE: usize = 65_536;
 
 /// A job, its lines, and once it has run what is written for it.
 #[derive(Drop)]
@@ -55,7 +53,7 @@ impl Work {
             alloc,
             number,
             lines: Vec::new(alloc),
-            room: Some(JOB_SIZE),
+            room: Some(JOB_SIZE_LIMIT),
             text: Vec::new(alloc),
             refused: false,
         }

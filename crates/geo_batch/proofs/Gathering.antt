@@ -1,5 +1,5 @@
 -- Jobs that all ran, by their places.
-use Rattle.std.proofs.Common.{◌≡◌, ◌∙◌, refl, ap, subst, sym, ℕ, zero, suc, ◌<◌, Option, None, Some, List, [], ◌∷◌, length, map, get_or, arith}
+use Rattle.std.proofs.Common.{◌≡◌, ◌∙◌, refl, ap, subst, sym, ℕ, suc, ◌<◌, Option, None, Some, List, [], ◌∷◌, length, map, get_or, arith}
 use Rattle.std.specs.Prelude.{IfSome}
 
 by_places : {J : Type 0} (done : J → J) (jobs all : List J) → length (map (λ x. Some x) all) ≡ length jobs → ((i : ℕ) (d : Option J) (e : J) → i < length jobs → IfSome (get_or (map (λ x. Some x) all) i d) (λ x. x ≡ done (get_or jobs i e))) → all ≡ map done jobs

@@ -2,6 +2,7 @@
 
 ghost use Rattle.std.specs.Prelude.{◌≡◌, ◌<◌, ◌≤◌, ℕ, length, map, Option, IfOk, IfSome, OnOk, Some, slice_index_or};
 ghost use Rattle.std.specs.Thread.{IsSync};
+ghost use Rattle.geo_batch.specs.declared.limits.TheConstants.{JOB_LIMIT};
 
 use crate::NoMemory;
 use std::alloc::{AllocError, Global};
@@ -25,7 +26,7 @@ pub fn run_all<R: Threads + Sync, J: Job + Send>(
     alloc: Global,
     jobs: Vec<J>,
 ) -> Result<Vec<J>, NoMemory>
-    requires { length jobs.items ≤ 16 }
+    requires { length jobs.items ≤ JOB_LIMIT }
     ensures { IfOk result (λ done. done.items ≡ map J.done jobs.items) }
 {
     match run_each(rt, jobs) {

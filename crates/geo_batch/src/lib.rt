@@ -2,8 +2,10 @@
 #![tactic(auto)]
 
 mod jobs;
+mod limits;
 
 pub use jobs::{Job, run_all};
+pub use limits::JOB_LIMIT;
 
 /// Memory was wanting.
 #[derive(Clone, Copy, PartialEq, Eq, Debug)]

@@ -1,6 +1,8 @@
 -- Schedules computed by the definitions.
 use Rattle.std.proofs.Common.{◌≡◌, List, [], ◌∷◌, refl, lit<, lit≤, arith}
-use Rattle.geo_board.specs.Machine.{BoardEvent, Claim, Look, Finish, no_find, entry, final_state, final_entries, IsSchedule}
+use Rattle.geo_board.specs.declared.views.BoardEvent.{BoardEvent}
+use Rattle.geo_board.specs.declared.views.BoardEvent.TheVariants.{Claim, Look, Finish}
+use Rattle.geo_board.specs.Machine.{no_find, entry, final_state, final_entries, IsSchedule}
 
 -- of two workers and three chunks; the second worker leaves its last chunk at the first one's find
 abbrev events : List BoardEvent

@@ -1,8 +1,8 @@
-pub mod Views
-pub mod Steps
+pub mod Lists
+pub mod MachineSteps
+pub mod Schedule
 pub mod TableSteps
 pub mod Seats
 pub mod Closing
-pub mod Schedule
 pub mod Truths
 pub mod Examples

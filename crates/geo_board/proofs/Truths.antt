@@ -6,7 +6,7 @@ use Rattle.std.proofs.lemmas.List.Elements.{All-nil, All-cons, All-head, All-tai
 use Rattle.geo_board.specs.declared.seat.Entry.{Entry}
 use Rattle.geo_board.specs.Machine.{no_find, times, least_found}
 use Rattle.geo_board.specs.Truth.{chunk_count, IsInChunk, IsLeastFailing, NoneFails, IsTruthful, IsAnswer}
-use Rattle.geo_board.proofs.Views.{least_found_small}
+use Rattle.geo_board.proofs.Lists.{least_found_small}
 
 -- some entry with P is of a chunk that is counted
 entry_of_chunk : (P : Entry → Type 0) (chunk : ℕ) (es : List Entry) → All P es → 0 < times chunk es → (e : Entry) × P e × (e.chunk ≡ chunk)
@@ -30,7 +30,7 @@ entry_of_least P (x ∷ es) all some_find = by_order (dec_le x.found (least_foun
       let r = later (λ none. some_find (sym same ∙ none)) in (r.0, r.1, r.2 ∙ same)
 
 -- what an entry found is not below the least
-found_above_least : (es : List Entry) → All (λ (e : Entry). least_found es ≤ e.found) es
+pub found_above_least : (es : List Entry) → All (λ (e : Entry). least_found es ≤ e.found) es
 found_above_least [] = All-nil (λ (e : Entry). no_find ≤ e.found)
 found_above_least (x ∷ es) = All-cons (λ (e : Entry). min x.found (least_found es) ≤ e.found) x es (omega arith)
     (All-weaker (λ (e : Entry). least_found es ≤ e.found) (λ (e : Entry). min x.found (least_found es) ≤ e.found) (λ e h. omega arith) es (found_above_least es))

@@ -1,4 +1,5 @@
 pub mod Machine
 pub mod Truth
+pub mod Hands
 pub mod Rule
 pub mod BoardSeats

@@ -1,6 +1,9 @@
 -- The board as a pure machine: its states, the events that may happen in each, and what an event changes.
-use Rattle.std.specs.Prelude.{◌≡◌, ◌≤◌, ◌<◌, ◌+◌, ◌-◌, ◌^◌, ◌++◌, ◌==◌, ℕ, Bool, true, false, Option, None, Some, IsSome, List, [], ◌∷◌, length, min, nat_lt, if◌then◌else◌, replicate, slice_index_or, slice_set, flat_map, count_by, All}
+use Rattle.std.specs.Prelude.{◌≡◌, ◌≤◌, ◌<◌, ◌+◌, ◌-◌, ◌^◌, ◌++◌, ◌==◌, ℕ, true, false, Option, None, Some, IsSome, List, [], ◌∷◌, length, min, nat_lt, if◌then◌else◌, replicate, slice_index_or, slice_set, flat_map, count_by, filter, All}
 use Rattle.geo_board.specs.declared.seat.Entry.{Entry}
+use Rattle.geo_board.specs.declared.views.WorkerState.{WorkerState as Declared}
+use Rattle.geo_board.specs.declared.views.BoardEvent.{BoardEvent}
+use Rattle.geo_board.specs.declared.views.BoardEvent.TheVariants.{Claim, Look, Finish}
 
 -- stands for no find, and for no limit
 abbrev pub no_find : ℕ
@@ -9,19 +12,9 @@ no_find = 2 ^ 64 - 1
 abbrev pub entry : ℕ → ℕ → ℕ → Entry
 entry chunk found bound = record { chunk = chunk; found = found; bound = bound }
 
--- a worker's current chunk if it has one, what it saw at its last look, whether it has ended, and the chunks that it has finished
-pub record WorkerState : Type 0 where
-  pub chunk : Option ℕ
-  pub look : ℕ
-  pub ended : Bool
-  pub entries : List Entry
-
--- what a worker, named by its number, may do at one step; with a finish goes the least failing
--- index of its chunk, or no_find
-pub data BoardEvent : Type 0 where
-  Claim : ℕ → BoardEvent
-  Look : ℕ → BoardEvent
-  Finish : ℕ → ℕ → BoardEvent
+-- what a worker is at some moment
+abbrev pub WorkerState : Type 0
+WorkerState = Declared
 
 -- the number of chunks, the next chunk to claim, the least index found, and the workers by their numbers
 pub record BoardState : Type 0 where
@@ -74,6 +67,20 @@ abbrev pub state_after : BoardState → BoardEvent → BoardState
 state_after m (Claim k) = record { total = m.total; next = m.next + 1; least = m.least; workers = slice_set m.workers k (worker_after_claim m.total m.next (worker_at m k)) }
 state_after m (Look k) = record { total = m.total; next = m.next; least = m.least; workers = slice_set m.workers k (worker_after_look m.least (worker_at m k)) }
 state_after m (Finish k found) = record { total = m.total; next = m.next; least = min m.least found; workers = slice_set m.workers k (worker_after_finish found (worker_at m k)) }
+
+-- the number of the event's worker
+abbrev pub worker_in : BoardEvent → ℕ
+worker_in (Claim k) = k
+worker_in (Look k) = k
+worker_in (Finish k found) = k
+
+-- the events of one worker, in their order
+abbrev pub events_of : ℕ → List BoardEvent → List BoardEvent
+events_of k events = filter (λ e. worker_in e == k) events
+
+-- the later list begins with the earlier one
+abbrev pub GoesOn : List BoardEvent → List BoardEvent → Type 0
+GoesOn earlier later = (more : List BoardEvent) × (later ≡ earlier ++ more)
 
 -- each event of the list is allowed after those before it
 abbrev pub AreAllowed : List BoardEvent → BoardState → Type 0

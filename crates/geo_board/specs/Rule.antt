@@ -1,102 +1,96 @@
 -- What holds of the running board between any two steps, and what each step does to a seat's view.
-use Rattle.std.specs.Prelude.{◌≡◌, ◌≤◌, ◌<◌, ◌+◌, ◌-◌, ◌++◌, ◌==◌, ℕ, Option, None, Some, IsSome, List, [], ◌∷◌, length, min, nat_lt, if◌then◌else◌, sum_by, All, slice_index}
+use Rattle.std.specs.Prelude.{◌≡◌, ◌<◌, ◌≤◌, ◌++◌, ◌==◌, ℕ, List, [], ◌∷◌, length, map, take, drop, nat_lt, if◌then◌else◌, sum_by, count_by, All, slice_index}
+use Rattle.std.specs.List.{range_with_len}
 use Rattle.atomic_table.specs.Table.{State, Step, Me}
-use Rattle.geo_board.specs.declared.seat.Entry.{Entry}
-use Rattle.geo_board.specs.declared.seat.SeatView.{SeatView}
+use Rattle.geo_board.specs.declared.views.BoardEvent.{BoardEvent}
+use Rattle.geo_board.specs.declared.views.BoardEvent.TheVariants.{Claim, Look, Finish}
+use Rattle.geo_board.specs.declared.views.Hand.{Hand}
+use Rattle.geo_board.specs.declared.views.SeatView.{SeatView}
 use Rattle.geo_board.specs.declared.rule.Sizes.{Sizes}
-use Rattle.geo_board.specs.Machine.{WorkerState, no_find, times, least_found, entry_of}
-
-abbrev pub view : ℕ → ℕ → ℕ → Option ℕ → ℕ → List Entry → SeatView
-view total workers ended chunk look entries = record { total = total; workers = workers; ended = ended; chunk = chunk; look = look; entries = entries }
-
--- the worker that a seat of one worker stands for
-abbrev pub worker_of_view : SeatView → WorkerState
-worker_of_view v = record { chunk = v.chunk; look = v.look; ended = nat_lt 0 v.ended; entries = v.entries }
-
--- whether the chunk is the current one, as a number
-abbrev pub holds_now : ℕ → Option ℕ → ℕ
-holds_now chunk None = 0
-holds_now chunk (Some c) = if c == chunk then 1 else 0
-
--- how often the chunk stands in a view, as the current one or in an entry
-abbrev pub holdings : ℕ → SeatView → ℕ
-holdings chunk v = times chunk v.entries + holds_now chunk v.chunk
+use Rattle.geo_board.specs.Machine.{WorkerState, final_state, worker_at, worker_after_claim, worker_after_look, worker_after_finish, least_found, events_of, GoesOn, IsSchedule}
+use Rattle.geo_board.specs.Hands.{hand, view, initial_hand, first_hand}
 
 abbrev pub once_below : ℕ → ℕ → ℕ
-once_below chunk n = if nat_lt chunk n then 1 else 0
+once_below k n = if nat_lt k n then 1 else 0
 
-abbrev pub least_of_views : List SeatView → ℕ
-least_of_views [] = no_find
-least_of_views (v ∷ vs) = min (least_found v.entries) (least_of_views vs)
+-- how often the worker of that number is one of the view's
+abbrev pub times_in : ℕ → SeatView → ℕ
+times_in k v = count_by (λ h. h.number == k) v.hands
 
--- the part of the rule that speaks of one seat
-pub record SeatFits (total next least : ℕ) (v : SeatView) : Type 0 where
-  -- looks: least is not above the look, nor above a bound
-  pub look : least ≤ v.look
-  pub bounds : All (λ e. least ≤ e.bound) v.entries
-  -- ended workers: at most the seat's workers, fewer while it has a chunk, and none before all chunks are claimed
-  pub ended : v.ended ≤ v.workers
-  pub busy : IsSome v.chunk → v.ended < v.workers
-  pub over : 0 < v.ended → total ≤ next
-  -- a seat without workers has nothing
-  pub idle : v.workers ≡ 0 → (v.chunk ≡ None) × (v.entries ≡ []) × (v.look ≡ no_find)
-  -- the view keeps the total
-  pub keeps_total : 0 < v.workers → v.total ≡ total
+-- the sum of some measure of the view's workers
+abbrev pub sum_in : (WorkerState → ℕ) → SeatView → ℕ
+sum_in f v = sum_by (λ h. f h.worker) v.hands
 
--- the rule, for the pure machine and for the table. Of its seven facts `each_seat` has three: the looks, the ended workers and the total
-pub record BoardFits (total workers next least : ℕ) (views : List SeatView) : Type 0 where
-  -- each chunk that was claimed stands in one view, once, and no other chunk in any
-  pub each_chunk_once : (chunk : ℕ) → sum_by (holdings chunk) views ≡ once_below chunk (min next total)
-  pub is_least_found : least ≡ least_of_views views
-  -- each claim beyond the last chunk has ended a worker
-  pub overshoot : next ≤ total + sum_by (λ v. v.ended) views
-  -- the workers add up to those of the board
-  pub workers_add_up : sum_by (λ v. v.workers) views ≡ workers
-  pub each_seat : All (SeatFits total next least) views
+-- the worker of a seat is the machine's after all events, of which it has seen those up to its own last one
+pub record HandFits (total workers : ℕ) (events : List BoardEvent) (h : Hand) : Type 0 where
+  pub past : GoesOn h.history events
+  pub quiet : events_of h.number events ≡ events_of h.number h.history
+  pub as_machine : worker_at (final_state total workers events) h.number ≡ h.worker
 
--- the rule of the table: the first word is next, and the second is least
+pub record ViewFits (total workers : ℕ) (events : List BoardEvent) (v : SeatView) : Type 0 where
+  pub each_hand : All (HandFits total workers events) v.hands
+  pub keeps_sizes : 0 < length v.hands → (v.total ≡ total) × (v.workers ≡ workers)
+
+-- the words and the views are the machine's after these events: each worker is one seat's, once
+pub record IsAfter (total workers : ℕ) (events : List BoardEvent) (next least : ℕ) (views : List SeatView) : Type 0 where
+  pub schedule : IsSchedule total workers events
+  pub next_is : (final_state total workers events).next ≡ next
+  pub least_is : (final_state total workers events).least ≡ least
+  pub each_number_once : (k : ℕ) → sum_by (times_in k) views ≡ once_below k workers
+  pub each_worker_once : (f : WorkerState → ℕ) → sum_by (sum_in f) views ≡ sum_by f (final_state total workers events).workers
+  pub each_view : All (ViewFits total workers events) views
+
+-- the rule of the table: it is what the machine is after some schedule, with next as the first word and least as the second
 pub record ObeysRule (sizes : Sizes) (s : State (Unit {0}) SeatView) : Type 0 where
   pub two_words : length s.words ≡ 2
-  pub fits : BoardFits sizes.total sizes.workers (slice_index s.words 0) (slice_index s.words 1) s.views
+  pub events : List BoardEvent
+  pub is_after : IsAfter sizes.total sizes.workers events (slice_index s.words 0) (slice_index s.words 1) s.views
 
--- the view of the first seat, which stands for all workers
+-- the view of the first seat, which has all workers
 abbrev pub initial_view : Sizes → SeatView
-initial_view sizes = view sizes.total sizes.workers 0 None no_find []
-
--- the steps of a seat
-abbrev pub view_after_claim : ℕ → SeatView → SeatView
-view_after_claim next v =
-    if nat_lt next v.total
-    then view v.total v.workers v.ended (Some next) no_find v.entries
-    else view v.total v.workers (v.ended + 1) v.chunk v.look v.entries
-
-abbrev pub view_after_look : ℕ → SeatView → SeatView
-view_after_look least v = view v.total v.workers v.ended v.chunk least v.entries
-
-abbrev pub view_after_finish : ℕ → SeatView → SeatView
-view_after_finish found v = view v.total v.workers v.ended None v.look (v.entries ++ entry_of v.chunk found v.look)
+initial_view sizes = view sizes.total sizes.workers (map initial_hand (range_with_len 0 sizes.workers))
 
 -- the worker that goes to a new seat, and those that stay
-abbrev pub view_of_one : SeatView → SeatView
-view_of_one v = view v.total 1 0 None no_find []
+abbrev pub view_of_first : SeatView → SeatView
+view_of_first v = view v.total v.workers (take 1 v.hands)
 
-abbrev pub view_less_one : SeatView → SeatView
-view_less_one v = view v.total (v.workers - 1) v.ended v.chunk v.look v.entries
+abbrev pub view_without_first : SeatView → SeatView
+view_without_first v = view v.total v.workers (drop 1 v.hands)
 
--- a seat with another's workers and entries, and the other afterwards
+-- a seat with another's workers, and the other afterwards
 abbrev pub view_together : SeatView → SeatView → SeatView
-view_together v w = view v.total (v.workers + w.workers) (v.ended + w.ended) v.chunk v.look (w.entries ++ v.entries)
+view_together v w = view v.total v.workers (w.hands ++ v.hands)
 
 abbrev pub spent_view : SeatView
-spent_view = view 0 0 0 None no_find []
+spent_view = view 0 0 []
 
--- what a claim tells: all chunks of the seat's list are below the number found
+-- a seat of one worker once the event has happened, after those before it
+abbrev pub view_after : List BoardEvent → BoardEvent → SeatView → SeatView
+view_after earlier event v =
+    view v.total v.workers (hand (first_hand v).number (earlier ++ event ∷ []) (worker_at (final_state v.total v.workers (earlier ++ event ∷ [])) (first_hand v).number) ∷ [])
+
+-- what a step tells: after the earlier events, which go on from what the seat had seen by steps of others alone, the machine
+-- allows the event, and the seat's worker is what the machine makes of it
+pub record Tells (earlier : List BoardEvent) (event : BoardEvent) (before after : Me (Unit {0}) SeatView) : Type 0 where
+  pub past : GoesOn (first_hand before.0).history earlier
+  pub quiet : events_of (first_hand before.0).number earlier ≡ events_of (first_hand before.0).number (first_hand before.0).history
+  pub allowed : IsSchedule before.0.total before.0.workers (earlier ++ event ∷ [])
+  pub step : after ≡ (view_after earlier event before.0, before.1)
+
+-- a claim finds the machine's next, and all chunks of the worker's list are below it
 abbrev pub Claims : Step (Unit {0}) → Me (Unit {0}) SeatView → ℕ → Me (Unit {0}) SeatView → Type 0
-Claims step before found after = (after ≡ (view_after_claim found before.0, before.1)) × All (λ e. e.chunk < found) before.0.entries
+Claims step before found after = (earlier : List BoardEvent) × Tells earlier (Claim (first_hand before.0).number) before after
+    × (found ≡ (final_state before.0.total before.0.workers earlier).next)
+    × ((first_hand after.0).worker ≡ worker_after_claim before.0.total found (first_hand before.0).worker)
+    × All (λ e. e.chunk < found) (first_hand before.0).worker.entries
 
--- what a look tells: the number found is not above the last look, nor above what the seat found itself
+-- a look finds the machine's least
 abbrev pub Looks : Step (Unit {0}) → Me (Unit {0}) SeatView → ℕ → Me (Unit {0}) SeatView → Type 0
-Looks step before found after = (after ≡ (view_after_look found before.0, before.1)) × (found ≤ before.0.look) × (found ≤ least_found before.0.entries)
+Looks step before found after = (earlier : List BoardEvent) × Tells earlier (Look (first_hand before.0).number) before after
+    × (found ≡ (final_state before.0.total before.0.workers earlier).least)
+    × ((first_hand after.0).worker ≡ worker_after_look found (first_hand before.0).worker)
+    × (found ≤ (first_hand before.0).worker.look) × (found ≤ least_found (first_hand before.0).worker.entries)
 
 abbrev pub Finishes : Step (Unit {0}) → Me (Unit {0}) SeatView → ℕ → Me (Unit {0}) SeatView → Type 0
-Finishes step before found after = after ≡ (view_after_finish step.first before.0, before.1)
+Finishes step before found after = (earlier : List BoardEvent) × Tells earlier (Finish (first_hand before.0).number step.first) before after
+    × ((first_hand after.0).worker ≡ worker_after_finish step.first (first_hand before.0).worker)

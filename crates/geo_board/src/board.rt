@@ -1,12 +1,16 @@
 // The calls on a board: each of `claim`, `look` and `finish` is one atomic operation on one word.
-ghost use Rattle.std.specs.Prelude.{◌≡◌, ℕ, ◌+◌, ◌-◌, ◌≤◌, ◌<◌, ◌^◌, [], true, false, None, Some, IsSome, All, length, vec_len, map, IfOk, IfSome, MatchOption};
+ghost use Rattle.std.specs.Prelude.{◌≡◌, ℕ, ◌+◌, ◌-◌, ◌≤◌, ◌<◌, ◌^◌, [], true, false, None, Some, IsSome, List, All, length, vec_len, map, IfOk, IfSome, MatchOption};
 ghost use Rattle.std.specs.List.{range_with_len};
-ghost use Rattle.geo_board.specs.Machine.{worker_after_claim, worker_after_look, worker_after_finish, least_found, times};
+ghost use Rattle.geo_board.specs.declared.views.BoardEvent.{BoardEvent};
+ghost use Rattle.geo_board.specs.declared.views.BoardEvent.TheVariants.{Claim, Look, Finish};
+ghost use Rattle.geo_board.specs.Machine.{worker_after_claim, worker_after_look, worker_after_finish, least_found, times, IsWholeSchedule};
 ghost use Rattle.geo_board.specs.Rule.{initial_view};
-ghost use Rattle.geo_board.specs.BoardSeats.{total_of, workers_of, number_of, worker_of, IsSeatOf, IsInitialSeatOf, HasEnded, entries_of};
+ghost use Rattle.geo_board.specs.BoardSeats.{total_of, workers_of, state_of, number_of, worker_of, history_of, IsSeatOf, IsInitialSeatOf, HasEnded, Happened, HasPartIn, entries_of, hands_of};
+ghost use Rattle.geo_board.specs.declared.limits.TheConstants.{WORKER_LIMIT, INDEX_LIMIT};
 
 use crate::rule::{Claiming, Finishing, Gathering, LEAST, Looking, NEXT, Parting, Sizes};
-use crate::seat::{Board, BoardSeat, NoMemory, SeatView};
+use crate::seat::{Board, BoardSeat, NoMemory};
+use crate::views::SeatView;
 use atomic_table::{Seat, Table};
 use std::alloc::{AllocError, Global};
 
@@ -22,11 +26,12 @@ impl BoardSeat {
 impl Board {
     /// A board of `total` chunks, all unclaimed, and one seat for each worker number from 0.
     pub fn new(alloc: Global, total: u64, workers: u64) -> Result<(Board, Vec<BoardSeat>), NoMemory>
-        requires workers { (0 < workers) × (workers ≤ 16) }
-        requires chunks { total ≤ 2 ^ 20 }
+        requires workers { (0 < workers) × (workers ≤ WORKER_LIMIT) }
+        requires chunks { total ≤ INDEX_LIMIT }
         ensures sizes { IfOk result (λ r. (total_of r.0 ≡ total) × (workers_of r.0 ≡ workers)) }
         ensures seats { IfOk result (λ r. All (IsInitialSeatOf r.0) r.1.items) }
         ensures numbers { IfOk result (λ r. map number_of r.1.items ≡ range_with_len 0 workers) }
+        ensures histories { IfOk result (λ r. All (λ s. history_of s ≡ []) r.1.items) }
     {
         let sizes = Sizes { total, workers };
         let Ok((table, whole)) = Table::of_words(alloc, &[0, u64::MAX], &sizes) else {
@@ -48,6 +53,7 @@ impl Board {
         requires { (whole.table_id ≡ self.now.table.shared.table_id) × (whole.me ≡ (initial_view self.now.sizes, [])) }
         ensures seats { IfOk result (λ seats. All (IsInitialSeatOf self.now) seats.items) }
         ensures numbers { IfOk result (λ seats. map number_of seats.items ≡ range_with_len 0 self.now.sizes.workers) }
+        ensures histories { IfOk result (λ seats. All (λ s. history_of s ≡ []) seats.items) }
     {
         let mut seats = Vec::new(alloc);
         let last = self.sizes.workers - 1;
@@ -69,6 +75,8 @@ impl Board {
         ensures of_board { IsSeatOf self.now seat.new × (number_of seat.new ≡ number_of seat.old) }
         ensures claimed { (next : ℕ) × (worker_of seat.new ≡ worker_after_claim (total_of self.now) next (worker_of seat.old))
             × MatchOption result (total_of self.now ≤ next) (λ chunk. (chunk ≡ next) × (chunk < total_of self.now)) }
+        ensures happened { (earlier : List BoardEvent) × Happened self.now earlier (Claim (number_of seat.old)) seat.old seat.new
+            × MatchOption result (total_of self.now ≤ (state_of self.now earlier).next) (λ chunk. chunk ≡ (state_of self.now earlier).next) }
         ensures above { IfSome result (λ chunk. All (λ e. e.chunk < chunk) (worker_of seat.old).entries) }
     {
         let shared = &self.table.shared;
@@ -85,6 +93,8 @@ impl Board {
         requires of_board { IsSeatOf self.now seat.old }
         ensures of_board { IsSeatOf self.now seat.new × (number_of seat.new ≡ number_of seat.old) }
         ensures looked { worker_of seat.new ≡ worker_after_look result (worker_of seat.old) }
+        ensures happened { (earlier : List BoardEvent) × Happened self.now earlier (Look (number_of seat.old)) seat.old seat.new
+            × (result ≡ (state_of self.now earlier).least) }
         ensures not_above_last { result ≤ (worker_of seat.old).look }
         ensures not_above_own { result ≤ least_found (worker_of seat.old).entries }
     {
@@ -97,6 +107,7 @@ impl Board {
         requires busy { IsSome (worker_of seat.old).chunk }
         ensures of_board { IsSeatOf self.now seat.new × (number_of seat.new ≡ number_of seat.old) }
         ensures finished { worker_of seat.new ≡ worker_after_finish found (worker_of seat.old) }
+        ensures happened { (earlier : List BoardEvent) × Happened self.now earlier (Finish (number_of seat.old) found) seat.old seat.new }
     {
         let shared = &self.table.shared;
         shared.fetch_min::<Finishing>(&mut seat.seat, LEAST, found);
@@ -109,6 +120,8 @@ impl Board {
         ensures least { result ≡ least_found (entries_of seats.items) }
         ensures bounds { All (λ e. result ≤ e.bound) (entries_of seats.items) }
         ensures each_chunk_once { (chunk : ℕ) → chunk < total_of self → times chunk (entries_of seats.items) ≡ 1 }
+        ensures schedule { (events : List BoardEvent) × IsWholeSchedule (total_of self) (workers_of self) events
+            × (result ≡ (state_of self events).least) × All (HasPartIn self events) seats.items }
     {
         let whole = self.gather(seats);
         let Board { sizes: _, table } = self;
@@ -123,8 +136,9 @@ impl Board {
         requires all { vec_len seats ≡ workers_of self.now }
         requires seats { All (λ s. IsSeatOf self.now s × HasEnded s) seats.items }
         ensures of_board { result.table_id ≡ self.now.table.shared.table_id }
-        ensures entries { result.me.0.entries ≡ entries_of seats.items }
-        ensures workers { (result.me.0.workers ≡ workers_of self.now) × (result.me.0.ended ≡ workers_of self.now) }
+        ensures hands { result.me.0.hands ≡ hands_of seats.items }
+        ensures workers { length result.me.0.hands ≡ workers_of self.now }
+        ensures ended { All (λ h. h.worker.ended ≡ true) result.me.0.hands }
     {
         let Some(
             BoardSeat {

@@ -4,10 +4,13 @@
 
 mod board;
 mod laws;
+mod limits;
 mod rule;
 mod seat;
+mod views;
 
 pub use laws::{every_schedule, truthful_entries};
+pub use limits::{INDEX_LIMIT, WORKER_LIMIT};
 pub use seat::{Board, BoardSeat, Entry, NoMemory};
 
 #[cfg(test)]

@@ -1,7 +1,7 @@
 // The rule of the table, and what its steps tell. The first word is the next chunk, the second the least index found.
-ghost use Rattle.geo_board.specs.Rule.{ObeysRule, initial_view, Claims, Looks, Finishes, view_less_one, view_of_one, view_together, spent_view};
+ghost use Rattle.geo_board.specs.Rule.{ObeysRule, initial_view, Claims, Looks, Finishes, view_without_first, view_of_first, view_together, spent_view};
 
-use crate::seat::SeatView;
+use crate::views::SeatView;
 use atomic_table::{Join, Play, Split, TableRule};
 
 pub(crate) const NEXT: usize = 0;
@@ -45,9 +45,9 @@ impl Play<(), SeatView> for Finishing {
 pub(crate) struct Parting;
 
 impl Split<SeatView> for Parting {
-    ghost left = { view_less_one };
+    ghost left = { view_without_first };
 
-    ghost right = { view_of_one };
+    ghost right = { view_of_first };
 }
 
 // The workers of one seat go to another.

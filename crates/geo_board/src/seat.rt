@@ -1,10 +1,12 @@
 // The board and its seats. Their calls stand in `board`.
-ghost use Rattle.std.specs.Prelude.{◌≡◌, ◌≤◌, ◌<◌, ◌^◌, [], Some};
+ghost use Rattle.std.specs.Prelude.{◌≡◌, ◌≤◌, ◌<◌, ◌^◌, [], Some, length};
+ghost use Rattle.geo_board.specs.Hands.{first_hand};
+ghost use Rattle.geo_board.specs.declared.limits.TheConstants.{WORKER_LIMIT, INDEX_LIMIT};
 
 use crate::rule::{BoardRule, Sizes};
+use crate::views::SeatView;
 use atomic_table::{Seat, Table};
 use std::alloc::Global;
-use std::collections::LinkedList;
 
 /// Memory ran out.
 #[derive(Clone, Copy, Debug, PartialEq, Eq)]
@@ -18,24 +20,15 @@ pub struct Entry {
     pub bound: u64,
 }
 
-/// What is known with a seat of the table. It exists in proofs alone: no value of it is made.
-pub struct SeatView {
-    pub total: u64,
-    pub workers: u64,
-    pub ended: u64,
-    pub chunk: Option<u64>,
-    pub look: u64,
-    pub entries: LinkedList<Entry>,
-}
-
-/// One worker's right to step on a board. Contracts see its `number_of` and its `worker_of`.
+/// One worker's right to step on a board. Contracts see its `number_of`, its
+/// `worker_of` and its `history_of`.
 #[derive(Drop)]
 pub struct BoardSeat {
     pub(crate) number: u64,
     pub(crate) seat: Seat<(), SeatView>,
     ghost no_slot: { seat.me.1 ≡ [] },
-    ghost one_worker: { seat.me.0.workers ≡ 1 },
-    ghost ended_once: { seat.me.0.ended ≤ 1 },
+    ghost one_worker: { length seat.me.0.hands ≡ 1 },
+    ghost its_number: { (first_hand seat.me.0).number ≡ number },
 }
 
 /// The chunks of one search, which workers claim through shared references.
@@ -46,7 +39,7 @@ pub struct Board {
     ghost two_words: { table.shared.table_id.words ≡ 2 },
     ghost no_slots: { table.shared.table_id.slots ≡ 0 },
     ghost key: { table.shared.key ≡ sizes },
-    ghost chunks: { sizes.total ≤ 2 ^ 20 },
-    ghost workers: { sizes.workers ≤ 16 },
+    ghost chunks: { sizes.total ≤ INDEX_LIMIT },
+    ghost workers: { sizes.workers ≤ WORKER_LIMIT },
     ghost some_worker: { 0 < sizes.workers },
 }

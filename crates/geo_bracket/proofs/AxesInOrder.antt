@@ -9,7 +9,8 @@ use Rattle.geo_sketch.specs.declared.elements.Def.TheVariants.{Free, Fixed, Cut,
 use Rattle.geo_sketch.specs.declared.elements.Element.{Element}
 use Rattle.geo_sketch.specs.Lookups.{Rises}
 use Rattle.geo_degree.specs.declared.grids.Axis.{Axis}
-use Rattle.geo_degree.specs.Grids.{own_parameters, parameters_of, axis, axes_among}
+use Rattle.geo_degree.specs.Grids.{parameters_of, axis, axes_among}
+use Rattle.geo_sketch.specs.Assignments.{own_parameters}
 use Rattle.geo_degree.specs.Verdicts.{IsAmong}
 use Rattle.geo_degree.proofs.AxisLaws.{Has}
 

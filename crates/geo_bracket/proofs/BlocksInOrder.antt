@@ -8,7 +8,8 @@ use Rattle.geo_degree.specs.declared.grids.Axis.{Axis}
 use Rattle.geo_degree.specs.declared.grids.Block.{Block}
 use Rattle.geo_degree.specs.declared.grids.Block.TheVariants.{One, Pair}
 use Rattle.geo_degree.specs.Blocks.{block_degrees, blocks_among, own_blocks, pairs_from}
-use Rattle.geo_degree.specs.Grids.{axes_among, axis, own_parameters, parameters_of}
+use Rattle.geo_degree.specs.Grids.{axes_among, axis, parameters_of}
+use Rattle.geo_sketch.specs.Assignments.{own_parameters}
 
 -- block by block, each of the axes that it covers has its degree
 abbrev pub Match : List Block → List Axis → Type 0

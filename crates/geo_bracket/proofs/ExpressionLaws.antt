@@ -12,7 +12,8 @@ use Rattle.geo_sketch.specs.declared.elements.Element.{Element}
 use Rattle.geo_sketch.specs.Assignments.{assignment_of}
 use Rattle.geo_sketch.specs.Constructions.{IsConstruction}
 use Rattle.geo_sketch.specs.PlainHeights.{threes}
-use Rattle.geo_sketch.specs.Sketches.{number_limit, Drawing, IsDrawn}
+use Rattle.geo_sketch.specs.Sketches.{Drawing, IsDrawn}
+use Rattle.geo_sketch.specs.declared.limits.TheConstants.{NUMBER_LIMIT}
 use Rattle.geo_sketch.specs.Statements.{parts_at}
 use Rattle.geo_sketch.proofs.SketchLaws.{constructed}
 use Rattle.geo_sketch.proofs.TableLaws.{number_at}
@@ -115,13 +116,13 @@ module _ (drawing : Drawing) (drawn : IsDrawn drawing) (ts : Terms) where
   by_degree : All (λ (a : Axis). (a.degree ≡ expression_degree es ts a.param) × (0 < a.degree)) axes
   by_degree = axes_by_degree (expression_degree es ts) (parameters_of es)
 
-  low_parameter : (p : ℕ) → 0 < expression_degree es ts p → p < 2 * number_limit
+  low_parameter : (p : ℕ) → 0 < expression_degree es ts p → p < 2 * NUMBER_LIMIT
   low_parameter p h =
       of_sum (bracket_degree es p)
       (λ b g.
       let at = is_axis es c (statement_of b) p g in
       let d = axis p (bracket_degree es p b) in
-      let low : (get_or (axes_of es (statement_of b)) at.0 d).param < 2 * number_limit = ((statement_form drawing drawn (statement_of b)).parameters at.0 d at.1).0 in
+      let low : (get_or (axes_of es (statement_of b)) at.0 d).param < 2 * NUMBER_LIMIT = ((statement_form drawing drawn (statement_of b)).parameters at.0 d at.1).0 in
       let same : (get_or (axes_of es (statement_of b)) at.0 d).param ≡ p = ap (λ (a : Axis). a.param) at.2 in
       omega (arith, low, same)) ts h
 
@@ -175,7 +176,7 @@ module _ (drawing : Drawing) (drawn : IsDrawn drawing) (ts : Terms) where
 
   pub expression_form : expression_height es ts threes ≤ 2 ^ 126 → IsForm (expression_question es ts)
   expression_form modest = record {
-    parameters = All-weaker (λ (a : Axis). (a.degree ≡ expression_degree es ts a.param) × (0 < a.degree)) (λ (a : Axis). (a.param < 2 * number_limit) × (0 < a.degree))
+    parameters = All-weaker (λ (a : Axis). (a.degree ≡ expression_degree es ts a.param) × (0 < a.degree)) (λ (a : Axis). (a.param < 2 * NUMBER_LIMIT) × (0 < a.degree))
         (λ a h. (low_parameter a.param (omega (arith, h.0, h.1)), h.1)) axes by_degree;
     agrees = agrees;
     short = short;

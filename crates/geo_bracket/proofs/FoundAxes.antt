@@ -7,15 +7,16 @@ use Rattle.std.proofs.lemmas.List.Sums.{sum_by-cons}
 use Rattle.geo_sketch.specs.declared.elements.Def.{Def}
 use Rattle.geo_sketch.specs.declared.elements.Def.TheVariants.{Free, Fixed, Cut, Blend, Cross}
 use Rattle.geo_sketch.specs.declared.elements.Element.{Element}
-use Rattle.geo_sketch.specs.Assignments.{first_parameter, second_parameter}
+use Rattle.geo_sketch.specs.Assignments.{first_parameter, second_parameter, own_parameters}
 use Rattle.geo_sketch.specs.Lookups.{numbered}
-use Rattle.geo_sketch.specs.Sketches.{Drawing, IsDrawn, element_parameters, number_limit, parameter_count, parameter_limit}
+use Rattle.geo_sketch.specs.Sketches.{Drawing, IsDrawn, element_parameters, parameter_count}
+use Rattle.geo_sketch.specs.declared.limits.TheConstants.{NUMBER_LIMIT, PARAMETER_LIMIT}
 use Rattle.geo_sketch.proofs.SketchLaws.{constructed}
 use Rattle.geo_sketch.proofs.TableLaws.{number_at}
 use Rattle.geo_degree.specs.declared.grids.Axis.{Axis}
 use Rattle.geo_degree.specs.declared.grids.Block.{Block}
 use Rattle.geo_degree.specs.Blocks.{blocks_among, own_blocks}
-use Rattle.geo_degree.specs.Grids.{axes_among, axis, own_parameters, parameters_of}
+use Rattle.geo_degree.specs.Grids.{axes_among, axis, parameters_of}
 use Rattle.geo_degree.proofs.PairLaws.{same_statement_degree}
 use Rattle.geo_grid.specs.Plans.{Planned}
 use Rattle.geo_bracket.specs.declared.expressions.Bracket.{Bracket}
@@ -41,7 +42,7 @@ parameters_counted : (es : List Element) → length (parameters_of es) ≡ sum_b
 parameters_counted [] = refl
 parameters_counted (e ∷ es) = length-append (own_parameters e.number e.def) (parameters_of es) ∙ omega (arith, own_count e.number e.def, parameters_counted es, sum_by-cons element_parameters e es)
 
-pub few_axes : (drawing : Drawing) (ts : Terms) → IsDrawn drawing → length (expression_axes drawing.elements ts) ≤ parameter_limit
+pub few_axes : (drawing : Drawing) (ts : Terms) → IsDrawn drawing → length (expression_axes drawing.elements ts) ≤ PARAMETER_LIMIT
 few_axes drawing ts drawn = omega (arith, axes_few (expression_degree drawing.elements ts) (parameters_of drawing.elements), parameters_counted drawing.elements, drawn.parameters_room)
 
 pub same_degrees : (drawing : Drawing) → IsDrawn drawing → (i : ℕ) (x : Element) → i < length drawing.elements → x ≡ get_or drawing.elements i x → x.def ≡ Free → (ts : Terms) → expression_degree drawing.elements ts (first_parameter x.number) ≡ expression_degree drawing.elements ts (second_parameter x.number)
@@ -54,7 +55,7 @@ same_degrees drawing drawn i x within same free ts =
 pub planned_is : (drawing : Drawing) (ts : Terms) (p : Planned) (named : List ℕ) (axes : List Axis) → p ≡ record { drawing = drawing; named = named; axes = axes } → named ≡ named_in ts → axes ≡ expression_axes drawing.elements ts → p ≡ planned_expression drawing ts
 planned_is drawing ts p named axes same names at = same ∙ (λ i. record { drawing = drawing; named = names i; axes = at i })
 
-pub number_low : (drawing : Drawing) (i : ℕ) (x : Element) → IsDrawn drawing → i < length drawing.elements → x ≡ get_or drawing.elements i x → x.number < number_limit
+pub number_low : (drawing : Drawing) (i : ℕ) (x : Element) → IsDrawn drawing → i < length drawing.elements → x ≡ get_or drawing.elements i x → x.number < NUMBER_LIMIT
 number_low drawing i x drawn within same =
     let there = number_at 0 drawing.elements i x drawn.rising within in
     let given : (get_or drawing.elements i x).number < length drawing.settings = drawn.given _ _ there.0 in

@@ -7,7 +7,8 @@ use Rattle.geo_sketch.specs.declared.elements.Element.{Element}
 use Rattle.geo_sketch.specs.Constructions.{IsConstruction}
 use Rattle.geo_sketch.specs.Heights.{height_of, heights_at}
 use Rattle.geo_sketch.specs.Lookups.{IsLive}
-use Rattle.geo_height.specs.Capped.{statement_limit, within_limit}
+use Rattle.geo_height.specs.Capped.{within_limit}
+use Rattle.geo_triple.specs.declared.limits.TheConstants.{STATEMENT_LIMIT}
 use Rattle.geo_height.proofs.HeightLaws.{named_in_statement, positive}
 use Rattle.geo_height.proofs.CappedLaws.{far}
 use Rattle.geo_height.proofs.SumLaws.{grows, largest-determinant}
@@ -35,11 +36,11 @@ module _ (es : List Element) (c : IsConstruction es) (m : ℕ → ℕ) where
       (le_trans below.0 whole, le_trans below.1 whole, le_trans below.2 whole)
 
 -- ---- what is kept of a height is the height, which is then within the limit
-pub kept_height : (h x : ℕ) → Some x ≡ within_limit h → (x ≡ h) × (h ≤ statement_limit)
-kept_height h x = cond_both (nat_lt statement_limit h) None (Some h) (λ o. Some x ≡ o → (x ≡ h) × (h ≤ statement_limit)) (λ t e. cc) (λ t e. let same : x ≡ h = cc in (same, ltb-false statement_limit h t))
+pub kept_height : (h x : ℕ) → Some x ≡ within_limit h → (x ≡ h) × (h ≤ STATEMENT_LIMIT)
+kept_height h x = cond_both (nat_lt STATEMENT_LIMIT h) None (Some h) (λ o. Some x ≡ o → (x ≡ h) × (h ≤ STATEMENT_LIMIT)) (λ t e. cc) (λ t e. let same : x ≡ h = cc in (same, ltb-false STATEMENT_LIMIT h t))
 
-pub past_height : (h : ℕ) → None ≡ within_limit h → statement_limit < h
-past_height h = cond_both (nat_lt statement_limit h) None (Some h) (λ (o : Option ℕ). None ≡ o → statement_limit < h) (λ t e. ltb-true statement_limit h t) (λ t e. cc)
+pub past_height : (h : ℕ) → None ≡ within_limit h → STATEMENT_LIMIT < h
+past_height h = cond_both (nat_lt STATEMENT_LIMIT h) None (Some h) (λ (o : Option ℕ). None ≡ o → STATEMENT_LIMIT < h) (λ t e. ltb-true STATEMENT_LIMIT h t) (λ t e. cc)
 
 -- what is past the limit stays so, with more added and times what is at least 1
 pub sum_past_left : (g h : ℕ) → None ≡ within_limit g → within_limit (g + h) ≡ None

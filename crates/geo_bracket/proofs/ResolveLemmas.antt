@@ -12,7 +12,7 @@ use Rattle.geo_sketch.specs.declared.elements.Kind.{Kind}
 use Rattle.geo_sketch.specs.Lookups.{IsLive, Rises, find_named, kind_at, number_named}
 use Rattle.geo_sketch.specs.PlainHeights.{threes}
 use Rattle.geo_sketch.proofs.AdditionLaws.{found_by_name, same_kinds}
-use Rattle.geo_height.specs.Capped.{statement_limit}
+use Rattle.geo_triple.specs.declared.limits.TheConstants.{STATEMENT_LIMIT}
 use Rattle.geo_bracket.specs.declared.expressions.Bracket.{Bracket}
 use Rattle.geo_bracket.specs.Expressions.{IsOfOneKind, IsPosedExpression, Terms, expression_height}
 use Rattle.geo_bracket.specs.Grammar.{SaidTerms, all_read, said_of}
@@ -100,7 +100,7 @@ module _ (es : List Element) where
       by_tests true true f g k = cc
       by_tests true false f g k =
           let same : ts ≡ e = cc in
-          subst (λ us. IsPosedExpression es us) same (record { live = live; kinds = kinds_made ts f; modest = ltb-false statement_limit (expression_height es ts threes) g })
+          subst (λ us. IsPosedExpression es us) same (record { live = live; kinds = kinds_made ts f; modest = ltb-false STATEMENT_LIMIT (expression_height es ts threes) g })
 
 -- ---- a test of what is greater
 pub test_is : (b : Bool) (n m : ℕ) → (b ≡ true) ↔ (n < m) → b ≡ nat_lt n m

@@ -11,7 +11,7 @@ use Rattle.geo_sketch.specs.Heights.{heights_at}
 use Rattle.geo_sketch.specs.Lookups.{kind_at, IsLive}
 use Rattle.geo_sketch.specs.PlainHeights.{threes}
 use Rattle.geo_sketch.specs.Triples.{triple_at}
-use Rattle.geo_height.specs.Capped.{statement_limit}
+use Rattle.geo_triple.specs.declared.limits.TheConstants.{STATEMENT_LIMIT}
 use Rattle.geo_degree.specs.Degrees.{statement_degree}
 use Rattle.geo_bracket.specs.declared.expressions.Bracket.{Bracket}
 use Rattle.geo_bracket.specs.Terms.{Product, AtEach, degree_of_sum, height_of_sum, sum_of}
@@ -57,4 +57,4 @@ IsOfOneKind es b = (kind : Kind) × (kind_at es b.first ≡ Some kind) × (kind_
 pub record IsPosedExpression (es : List Element) (ts : Terms) : Type 0 where
   pub live : AtEach (IsLive es) ts
   pub kinds : All (λ (t : Product (Bracket ℕ)). All (IsOfOneKind es) t.brackets) ts
-  pub modest : expression_height es ts threes ≤ statement_limit
+  pub modest : expression_height es ts threes ≤ STATEMENT_LIMIT

@@ -10,6 +10,7 @@ use Rattle.geo_parse.specs.Words.{words}
 use Rattle.geo_parse.specs.Numbers.{natural_of}
 use Rattle.geo_bracket.specs.declared.expressions.Bracket.{Bracket}
 use Rattle.geo_bracket.specs.Terms.{Product}
+use Rattle.geo_bracket.specs.declared.limits.TheConstants.{TERM_LIMIT, FACTOR_LIMIT}
 
 -- about elements by their names
 abbrev pub SaidTerms : Type 0
@@ -47,7 +48,7 @@ abbrev pub term : ℤ → List (Bracket (List ℕ)) → Product (Bracket (List �
 term number bs = record { number = number; brackets = bs }
 
 abbrev pub brackets_of : ℤ → List (List ℕ) → Option (Product (Bracket (List ℕ)))
-brackets_of number ws = if nat_le 1 (length ws) && nat_le (length ws) 8 then option_map (term number) (all_read bracket_of ws) else None
+brackets_of number ws = if nat_le 1 (length ws) && nat_le (length ws) FACTOR_LIMIT then option_map (term number) (all_read bracket_of ws) else None
 
 -- the number, or its negative
 abbrev pub signed_number : Bool → ℕ → ℤ
@@ -93,12 +94,12 @@ terms_of [] = None
 terms_of (w ∷ ws) = if is_minus w then terms_between true ws else terms_between false (w ∷ ws)
 
 -- ---- an expression: at most 16 terms
-abbrev pub at_most_16 : SaidTerms → Result SaidTerms Refusal
-at_most_16 ts = if nat_le (length ts) 16 then Ok ts else Err refusal.Shape
+abbrev pub with_few_terms : SaidTerms → Result SaidTerms Refusal
+with_few_terms ts = if nat_le (length ts) TERM_LIMIT then Ok ts else Err refusal.Shape
 
 abbrev pub shaped : Option SaidTerms → Result SaidTerms Refusal
 shaped None = Err refusal.Shape
-shaped (Some ts) = at_most_16 ts
+shaped (Some ts) = with_few_terms ts
 
 -- the words behind `zero`; no word at all are too few
 abbrev pub said_by : List (List ℕ) → Result SaidTerms Refusal

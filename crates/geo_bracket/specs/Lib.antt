@@ -3,6 +3,5 @@ pub mod Grammar
 pub mod Expressions
 pub mod Resolving
 pub mod Questions
-pub mod Limits
 pub mod Posing
 pub mod Verdicts

@@ -7,7 +7,7 @@ use Rattle.geo_triple.specs.Sums.{cross_sums, determinant_sum, largest_of, sizes
 use Rattle.geo_triple.specs.Triple.{determinant_of}
 use Rattle.geo_sketch.specs.declared.elements.Element.{Element}
 use Rattle.geo_sketch.specs.Sketches.{Drawing}
-use Rattle.geo_height.specs.Capped.{statement_limit}
+use Rattle.geo_triple.specs.declared.limits.TheConstants.{STATEMENT_LIMIT}
 use Rattle.geo_grid.specs.declared.search.form.Scratch.{Scratch}
 use Rattle.geo_grid.specs.Nodes.{size_there, triple_there}
 use Rattle.geo_grid.specs.Plans.{Planned}
@@ -58,4 +58,4 @@ pub record AsksOf (es : List Element) (ts placed : Terms) (triples : List Triple
 
 -- a work stands for these values, at which the expression is within the limit
 abbrev pub TellsOf : Planned → Terms → Scratch → List ℤ → Type 0
-TellsOf p ts work xs = StandsFor p work xs × (expression_height_at p.drawing.elements ts (map unsigned_abs xs) ≤ statement_limit)
+TellsOf p ts work xs = StandsFor p work xs × (expression_height_at p.drawing.elements ts (map unsigned_abs xs) ≤ STATEMENT_LIMIT)

@@ -9,7 +9,7 @@ use Rattle.geo_sketch.specs.declared.elements.Kind.{Kind}
 use Rattle.geo_sketch.specs.Additions.{same_kind}
 use Rattle.geo_sketch.specs.Lookups.{kind_at, number_named}
 use Rattle.geo_sketch.specs.PlainHeights.{threes}
-use Rattle.geo_height.specs.Capped.{statement_limit}
+use Rattle.geo_triple.specs.declared.limits.TheConstants.{STATEMENT_LIMIT}
 use Rattle.geo_bracket.specs.declared.expressions.Bracket.{Bracket}
 use Rattle.geo_bracket.specs.Expressions.{Terms, expression_height}
 use Rattle.geo_bracket.specs.Grammar.{SaidTerms, all_read, said_of}
@@ -42,7 +42,7 @@ are_of_one_kind es ts = list_all (λ (t : Product (Bracket ℕ)). list_all (is_o
 
 -- ---- its height with all magnitudes 3 is greater than 2^126
 abbrev pub is_great : List Element → Terms → Bool
-is_great es ts = nat_lt statement_limit (expression_height es ts threes)
+is_great es ts = nat_lt STATEMENT_LIMIT (expression_height es ts threes)
 
 -- ---- what is answered
 abbrev pub judged : List Element → Terms → Result Terms Refusal

@@ -3,6 +3,8 @@ use Rattle.std.specs.Prelude.{ℕ, ◌+◌, ◌*◌, ◌≤◌, max, ℤ, pos, �
 use Rattle.geo_law.specs.Coefficients.{multiple_of_list, product_of_lists, sum_of_lists}
 use Rattle.geo_law.specs.Tables.{multiple_of_table, product_of_tables, sum_of_tables}
 use Rattle.geo_bracket.specs.declared.expressions.Bracket.{Bracket}
+use Rattle.geo_bracket.specs.declared.limits.TheConstants.{TERM_LIMIT, FACTOR_LIMIT}
+use Rattle.geo_sketch.specs.declared.limits.TheConstants.{COORDINATE_LIMIT}
 
 -- a number times the product of some brackets
 pub record Product (X : Type 0) : Type 0 where
@@ -11,8 +13,8 @@ pub record Product (X : Type 0) : Type 0 where
 
 -- at most 16 terms, each with a number from -1000 to 1000 and at most 8 brackets
 pub record IsSmall {X : Type 0} (ts : List (Product X)) : Type 0 where
-  pub few : length ts ≤ 16
-  pub short : All (λ (t : Product X). (unsigned_abs t.number ≤ 1000) × (length t.brackets ≤ 8)) ts
+  pub few : length ts ≤ TERM_LIMIT
+  pub short : All (λ (t : Product X). (unsigned_abs t.number ≤ COORDINATE_LIMIT) × (length t.brackets ≤ FACTOR_LIMIT)) ts
 
 module _ {X : Type 0} where
   -- ---- values

@@ -6,7 +6,8 @@ ghost use Rattle.geo_sketch.specs.Lookups.{IsLive};
 ghost use Rattle.geo_sketch.specs.PlainHeights.{threes};
 ghost use Rattle.geo_sketch.specs.Sketches.{IsDrawn};
 ghost use Rattle.geo_height.specs.Bounds.{magnitude_of};
-ghost use Rattle.geo_height.specs.Capped.{statement_limit, within_limit};
+ghost use Rattle.geo_height.specs.Capped.{within_limit};
+ghost use Rattle.geo_triple.specs.declared.limits.TheConstants.{STATEMENT_LIMIT};
 ghost use Rattle.geo_bracket.specs.Expressions.{bracket_height, expression_height};
 ghost use Rattle.geo_bracket.specs.Terms.{AtEach, AtProduct, height_of_term};
 
@@ -14,9 +15,7 @@ use crate::degrees::statement_of;
 use crate::expressions::{Expression, Term};
 use geo_height::of_statement;
 use geo_sketch::{ELEMENT_LIMIT, Sketch, first_parameter, second_parameter};
-
-/// The greatest height that is given.
-const HEIGHT_LIMIT: u128 = 1 << 126;
+use geo_triple::STATEMENT_LIMIT;
 
 /// Two parameters for each element that a sketch may have.
 const PLACES: usize = 2 * ELEMENT_LIMIT;
@@ -90,7 +89,7 @@ fn product_within(x: u128, y: u128) -> Option<u128>
 fn keep(height: u128) -> Option<u128>
     ensures { result ≡ within_limit height }
 {
-    if height > HEIGHT_LIMIT {
+    if height > STATEMENT_LIMIT {
         None
     } else {
         Some(height)
@@ -101,7 +100,7 @@ fn keep(height: u128) -> Option<u128>
 /// magnitude is 3.
 pub(crate) fn is_great(sketch: &Sketch, expression: &Expression) -> bool
     requires { AtEach (IsLive sketch.now.elements) expression.now }
-    ensures { (result ≡ true) ↔ (statement_limit < expression_height sketch.now.elements expression.now threes) }
+    ensures { (result ≡ true) ↔ (STATEMENT_LIMIT < expression_height sketch.now.elements expression.now threes) }
 {
     height(sketch, expression.terms(), &all_threes(sketch)).is_none()
 }

@@ -1,7 +1,6 @@
 //! Expressions posed as forms over a plan, and what is settled about them.
 
 mod axes;
-mod lane;
 mod magnitudes;
 mod places;
 mod posing;

@@ -2,6 +2,7 @@
 //! says that six points are on a conic.
 
 ghost use Rattle.std.specs.Prelude.{◌<◌, ◌≤◌};
+ghost use Rattle.geo_board.specs.declared.limits.TheConstants.{WORKER_LIMIT};
 
 use crate::{Expression, PosedZero, read_expression, settle_zero};
 use geo_grid::{Form, Grid};
@@ -49,7 +50,7 @@ fn searched<R: Threads + Sync>(
     line: &[u8],
     workers: u64,
 ) -> Result<(u64, First), Fail>
-    requires { (0 < workers) × (workers ≤ 16) }
+    requires { (0 < workers) × (workers ≤ WORKER_LIMIT) }
 {
     let expression = read_expression(alloc, line)?.resolve(alloc, sketch)?;
     let posed = PosedZero::new(alloc, sketch, &expression)?;

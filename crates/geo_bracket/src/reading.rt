@@ -7,13 +7,11 @@ ghost use Rattle.geo_parse.specs.WordsLeft.{words_left};
 ghost use Rattle.geo_bracket.specs.Grammar.{said_by, said_of};
 
 use crate::expressions::SaidExpression;
+use crate::limits::TERM_LIMIT;
 use crate::terms::read_terms;
 use geo_parse::{Words, split_words};
 use geo_sketch::{Refusal, Stop};
 use std::alloc::{AllocError, Global};
-
-/// The greatest number of terms.
-const TERM_LIMIT: usize = 16;
 
 /// Reads an expression from the words of a line behind the first one, which is not looked at.
 /// Refused as arity where there is no second word, as shape where the words are no expression.

@@ -7,12 +7,10 @@ ghost use Rattle.geo_bracket.specs.Grammar.{brackets_of, is_minus, is_sign, sign
 
 use crate::brackets::read_brackets;
 use crate::expressions::Term;
+use crate::limits::FACTOR_LIMIT;
 use geo_parse::read_natural;
 use geo_sketch::Name;
 use std::alloc::{AllocError, Global};
-
-/// The greatest number of brackets of a term.
-const BRACKET_LIMIT: usize = 8;
 
 /// Reads the terms of an expression, of which the first may have a sign; None where one of them
 /// is none.
@@ -102,7 +100,7 @@ fn read_product(
 ) -> Result<Option<Term<Name>>, AllocError>
     ensures { IfOk result (λ o. o ≡ brackets_of number (texts words.now)) }
 {
-    if !(1..=BRACKET_LIMIT).contains(&words.len()) {
+    if !(1..=FACTOR_LIMIT).contains(&words.len()) {
         return Ok(None);
     }
     match read_brackets(alloc, words)? {

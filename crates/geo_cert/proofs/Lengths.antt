@@ -25,6 +25,7 @@ use Rattle.geo_cert.specs.declared.words.ClaimWord.{ClaimWord}
 use Rattle.geo_cert.specs.declared.words.ClaimWord.TheVariants as claim
 use Rattle.geo_cert.specs.Grids.{Grid, one, two}
 use Rattle.geo_cert.specs.Shapes.{IsCount, IsWhole, IsWithinClaim, IsWithinDef, IsWithinDegree, IsWithinElement, IsWithinFinding, IsWithinGrid, IsWithinValue, claim_items, count_data, def_items, degree_items, element_items, finding_data, grid_items, row_data, rows_data, value_items, whole_data, wholes_items}
+use Rattle.geo_cert.specs.declared.limits.TheConstants.{CERTIFICATE_LIMIT}
 use Rattle.geo_cert.specs.Words.{text_of_claim, text_of_def, text_of_kind}
 
 -- at most so many bytes
@@ -246,7 +247,7 @@ abbrev pub HasFew : Finding → Type 0
 HasFew (Proved degrees grid) = (length degrees ≤ 24) × (weights grid ≤ 24) × AllByRecursion IsShort grid
 HasFew (False values) = length values ≤ 24
 
-pub line_length : (c : Statement) (es : List (ℕ × Kind × Def)) (v : ℕ) (found : Finding) → IsWithinClaim c → AllByRecursion IsWithinElement es → IsCount v → IsWithinFinding found → length es ≤ 64 → HasFew found → length (compact_text (finding_data c es v found)) ≤ 65536
+pub line_length : (c : Statement) (es : List (ℕ × Kind × Def)) (v : ℕ) (found : Finding) → IsWithinClaim c → AllByRecursion IsWithinElement es → IsCount v → IsWithinFinding found → length es ≤ 64 → HasFew found → length (compact_text (finding_data c es v found)) ≤ CERTIFICATE_LIMIT
 line_length c es v (Proved degrees grid) wc we wv wf few h =
     let t = (object_long 27555 (member_long (codes "claim") 44 27498 key_claim (claim_long c wc) (member_long (codes "degrees") 890 26595 key_degrees (degrees_long degrees wf.0 h.0)
     (member_long (codes "elements") 4226 22356 key_elements (elements_long es we few) (member_long (codes "grid") 22298 45 key_grid (grid_list_long grid wf.1 h.2 h.1) (endings_long (codes "proved") v proved_long wv)))))).at_most in

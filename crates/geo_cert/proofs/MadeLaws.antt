@@ -17,19 +17,20 @@ use Rattle.geo_sketch.specs.declared.statements.Statement.{Statement}
 use Rattle.geo_sketch.specs.declared.statements.Statement.TheVariants as statement
 use Rattle.geo_sketch.specs.declared.verdicts.Verdict.{Verdict}
 use Rattle.geo_sketch.specs.declared.verdicts.Verdict.TheVariants as verdict
-use Rattle.geo_sketch.specs.Assignments.{first_parameter, second_parameter}
+use Rattle.geo_sketch.specs.Assignments.{first_parameter, second_parameter, own_parameters}
 use Rattle.geo_sketch.specs.Lookups.{kind_at, numbered}
 use Rattle.geo_sketch.specs.Needs.{needed_list, renamed_part}
 use Rattle.geo_sketch.specs.Rebuilding.{listed, AreSound}
 use Rattle.geo_sketch.specs.Samples.{sample_value}
-use Rattle.geo_sketch.specs.Sketches.{Drawing, IsDefined, IsDrawn, IsPosed, IsSmall, number_limit, other}
+use Rattle.geo_sketch.specs.Sketches.{Drawing, IsDefined, IsDrawn, IsPosed, IsSmall, other}
+use Rattle.geo_sketch.specs.declared.limits.TheConstants.{NUMBER_LIMIT}
 use Rattle.geo_sketch.proofs.NeededParts.{needed_sound}
 use Rattle.geo_sketch.proofs.SketchLaws.{constructed, live}
 use Rattle.geo_sketch.proofs.SoundLaws.{drawn_sound}
 use Rattle.geo_sketch.proofs.TableLaws.{number_at}
 use Rattle.geo_degree.specs.declared.grids.Axis.{Axis}
 use Rattle.geo_degree.specs.Degrees.{statement_degree, statement_degree_limit}
-use Rattle.geo_degree.specs.Grids.{axes_among, axes_of, axis, axis_magnitude, grid_value, grid_values, own_parameters, parameters_of, values_on}
+use Rattle.geo_degree.specs.Grids.{axes_among, axes_of, axis, axis_magnitude, grid_value, grid_values, parameters_of, values_on}
 use Rattle.geo_degree.specs.Questions.{point, sample}
 use Rattle.geo_degree.specs.Verdicts.{named, question_of, IsStatementVerdict}
 use Rattle.geo_degree.proofs.AxisLaws.{axes_by_degree}
@@ -44,12 +45,12 @@ use Rattle.geo_cert.specs.declared.certificates.Finding.TheVariants as finding
 use Rattle.geo_cert.specs.declared.degree_lists.DegreeEntry.{DegreeEntry}
 use Rattle.geo_cert.specs.declared.degree_lists.DegreeEntry.TheVariants.{One, Pair}
 use Rattle.geo_cert.specs.Grids.{Grid, one, two}
-use Rattle.geo_cert.specs.Lines.{line_limit}
 use Rattle.geo_cert.specs.Making.{certificate_by, degrees_of, element_degree, own_degree, values_for, where_above, IsLowEntry}
 use Rattle.geo_cert.specs.Objects.{certificate}
 use Rattle.geo_cert.specs.Shapes.{IsCount, IsWhole, IsWithin, IsWithinClaim, IsWithinDef, IsWithinDegree, IsWithinElement, IsWithinFinding, IsWithinGrid, IsWithinValue}
 use Rattle.geo_cert.specs.Written.{line_of, written_version}
 use Rattle.geo_cert.proofs.Lengths.{HasFew, IsShort, line_length, weight, weights}
+use Rattle.geo_cert.specs.declared.limits.TheConstants.{CERTIFICATE_LIMIT}
 
 -- ---- numbers
 small_whole : (z : ℤ) → unsigned_abs z ≤ 1000 → IsWhole z
@@ -74,7 +75,7 @@ all_option P None xs p h = h
 all_option P (Some x) xs p h = (p, h)
 
 -- ---- elements and the claim
-def_within : (es : List Element) (n : ℕ) (kind : Kind) (d : Def) → n < number_limit → IsDefined es n kind d → IsWithinDef d
+def_within : (es : List Element) (n : ℕ) (kind : Kind) (d : Def) → n < NUMBER_LIMIT → IsDefined es n kind d → IsWithinDef d
 def_within es n kind Free l h = tt
 def_within es n kind (Fixed a b c) l h = (small_whole a h.0, small_whole b h.1, small_whole c h.2)
 def_within es n kind (Cut k) l h = omega (arith, h.0)
@@ -89,7 +90,7 @@ entries_within list sound =
     let there : get_or es i (listed d) ≡ listed x = get_or-map listed list i d (listed d) l in
     let within : i < length es = omega (arith, l, length-map list listed) in
     let found : numbered es x.0 ≡ Some (listed x) = subst (λ (e : Element). numbered es e.number ≡ Some e) there (number_at 0 es i (listed d) sound.rising within).0 in
-    let low : x.0 < number_limit = sound.numbers_room x.0 (listed x) found in
+    let low : x.0 < NUMBER_LIMIT = sound.numbers_room x.0 (listed x) found in
     (omega (arith, low), def_within es x.0 x.1 x.2 low (sound.defined x.0 (listed x) found)))
 
 live_count : (es : List Element) → AreSound es → (n : ℕ) (kind : Kind) → kind_at es n ≡ Some kind → IsCount n
@@ -108,7 +109,7 @@ IsGoodEntry count e = IsWithinDegree e × IsLowEntry e × (weight (values_for e)
 where_good : (make : ℕ → DegreeEntry) (count d : ℕ) → IsGoodEntry count (make d) → IfSome (where_above make d) (IsGoodEntry count)
 where_good make count d h = cond_both (nat_lt 0 d) (Some (make d)) None (λ o. IfSome o (IsGoodEntry count)) (λ t. h) (λ t. tt)
 
-own_good : (degree : ℕ → ℕ) → ((p : ℕ) → degree p ≤ statement_degree_limit) → (n : ℕ) (d : Def) → n < number_limit → IfSome (own_degree degree n d) (IsGoodEntry (length (own_parameters n d)))
+own_good : (degree : ℕ → ℕ) → ((p : ℕ) → degree p ≤ statement_degree_limit) → (n : ℕ) (d : Def) → n < NUMBER_LIMIT → IfSome (own_degree degree n d) (IsGoodEntry (length (own_parameters n d)))
 own_good degree low n Free l =
     where_good (λ d. Pair (first_parameter n) (second_parameter n) (pos d)) 2 (degree (first_parameter n)) ((omega arith, omega arith, omega (arith, low (first_parameter n))), low (first_parameter n), omega arith)
 own_good degree low n (Fixed a b c) l = tt
@@ -117,7 +118,7 @@ own_good degree low n (Blend k m) l = where_good (λ d. One (first_parameter n) 
 own_good degree low n (Cross k m) l = tt
 
 -- what holds of the entries of each element holds of all
-entries_good : (degree : ℕ → ℕ) → ((p : ℕ) → degree p ≤ statement_degree_limit) → (es : List Element) → AllByRecursion (λ (e : Element). e.number < number_limit) es → AllByRecursion (λ e. IsWithinDegree e × IsLowEntry e) (filter_map (element_degree degree) es)
+entries_good : (degree : ℕ → ℕ) → ((p : ℕ) → degree p ≤ statement_degree_limit) → (es : List Element) → AllByRecursion (λ (e : Element). e.number < NUMBER_LIMIT) es → AllByRecursion (λ e. IsWithinDegree e × IsLowEntry e) (filter_map (element_degree degree) es)
 entries_good degree low [] h = tt
 entries_good degree low (e ∷ es) h =
     all_option (λ e. IsWithinDegree e × IsLowEntry e) (own_degree degree e.number e.def) (filter_map (element_degree degree) es) (kept (own_degree degree e.number e.def) (length (own_parameters e.number e.def)) (own_good degree low e.number e.def h.0)) (entries_good degree low es h.1)
@@ -130,7 +131,7 @@ heavier : (o : Option DegreeEntry) (xs : List DegreeEntry) (k n : ℕ) → IfSom
 heavier None xs k n h l = omega (arith, l)
 heavier (Some x) xs k n h l = omega (arith, h.2, l)
 
-entries_light : (degree : ℕ → ℕ) → ((p : ℕ) → degree p ≤ statement_degree_limit) → (es : List Element) → AllByRecursion (λ (e : Element). e.number < number_limit) es → weights (map values_for (filter_map (element_degree degree) es)) ≤ length (parameters_of es)
+entries_light : (degree : ℕ → ℕ) → ((p : ℕ) → degree p ≤ statement_degree_limit) → (es : List Element) → AllByRecursion (λ (e : Element). e.number < NUMBER_LIMIT) es → weights (map values_for (filter_map (element_degree degree) es)) ≤ length (parameters_of es)
 entries_light degree low [] h = omega arith
 entries_light degree low (e ∷ es) h =
     let own = own_parameters e.number e.def in
@@ -160,7 +161,7 @@ grid_short (Pair p q d) h = (omega (arith, length_values (unsigned_abs d + 1), h
 
 -- ---- values at which a statement fails
 abbrev IsLowAxis : Axis → Type 0
-IsLowAxis a = (a.param < 2 * number_limit) × (a.degree ≤ statement_degree_limit)
+IsLowAxis a = (a.param < 2 * NUMBER_LIMIT) × (a.degree ≤ statement_degree_limit)
 
 point_within : (axes : List Axis) (xs : List ℤ) → AllByRecursion IsLowAxis axes → AllZip (λ x m. unsigned_abs x ≤ m) xs (map axis_magnitude axes) → AllByRecursion IsWithinValue (named axes xs)
 point_within [] xs low h = tt
@@ -202,9 +203,9 @@ module _ (drawing : Drawing) (drawn : IsDrawn drawing) (s : Statement) (posed : 
   low_degree : (p : ℕ) → statement_degree es s p ≤ statement_degree_limit
   low_degree p = statement_degree_low drawing drawn s p
 
-  low_numbers : AllByRecursion (λ (e : Element). e.number < number_limit) es
+  low_numbers : AllByRecursion (λ (e : Element). e.number < NUMBER_LIMIT) es
   low_numbers =
-      recursion_from_All (λ (e : Element). e.number < number_limit) es (λ i d l.
+      recursion_from_All (λ (e : Element). e.number < NUMBER_LIMIT) es (λ i d l.
       (drawn_sound drawing drawn).numbers_room (get_or es i d).number (get_or es i d) (number_at 0 es i d drawn.rising l).0)
 
   good_degrees : AllByRecursion (λ e. IsWithinDegree e × IsLowEntry e) (degrees_of es s)
@@ -233,7 +234,7 @@ module _ (drawing : Drawing) (drawn : IsDrawn drawing) (s : Statement) (posed : 
 
   -- where the finding is in range and small, so is the certificate
   abbrev Fits : Certificate → Type 0
-  Fits c = IsWithin c × (length (line_of c) ≤ line_limit)
+  Fits c = IsWithin c × (length (line_of c) ≤ CERTIFICATE_LIMIT)
 
   fits : (found : Finding) → IsWithinFinding found → HasFew found → Fits (certificate (needed_list es s) s found)
   fits found within few =

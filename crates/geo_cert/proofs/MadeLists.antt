@@ -8,7 +8,8 @@ use Rattle.std.proofs.lemmas.List.Elements.{filter_map-append, filter_more}
 use Rattle.std.proofs.lemmas.Option.{get_or_from_slice_get}
 use Rattle.geo_sketch.specs.declared.elements.Element.{Element}
 use Rattle.geo_sketch.specs.Needs.{entry_of}
-use Rattle.geo_sketch.specs.Sketches.{Drawing, IsDrawn, number_limit}
+use Rattle.geo_sketch.specs.Sketches.{Drawing, IsDrawn}
+use Rattle.geo_sketch.specs.declared.limits.TheConstants.{NUMBER_LIMIT}
 use Rattle.geo_sketch.proofs.TableLaws.{number_at}
 
 -- ---- what a partial function gives of one more item
@@ -37,7 +38,7 @@ pub value_more : (xs ys : List (ℕ × ℤ)) (k : ℕ) (x : ℕ × ℤ) → k < 
 value_more xs ys k x within found e = ap (λ (zs : List (ℕ × ℤ)). zs ++ x ∷ []) e ∙ ap (λ (y : ℕ × ℤ). take k xs ++ y ∷ []) (sym (get_or_from_slice_get xs k x x found)) ∙ sym (take_more xs k x within)
 
 -- ---- numbers are below the limit
-pub number_low : (drawing : Drawing) (i : ℕ) (x : Element) → IsDrawn drawing → i < length drawing.elements → x ≡ get_or drawing.elements i x → x.number < number_limit
+pub number_low : (drawing : Drawing) (i : ℕ) (x : Element) → IsDrawn drawing → i < length drawing.elements → x ≡ get_or drawing.elements i x → x.number < NUMBER_LIMIT
 number_low drawing i x drawn within same =
     let there = number_at 0 drawing.elements i x drawn.rising within in
     let given : (get_or drawing.elements i x).number < length drawing.settings = drawn.given _ _ there.0 in

@@ -35,10 +35,11 @@ use Rattle.geo_cert.specs.declared.words.DefWord.TheVariants as def
 use Rattle.geo_cert.specs.declared.words.ClaimWord.{ClaimWord}
 use Rattle.geo_cert.specs.declared.words.ClaimWord.TheVariants as claim
 use Rattle.geo_cert.specs.Grids.{Grid, one, two}
-use Rattle.geo_cert.specs.Lines.{line_limit, ReadsAs}
+use Rattle.geo_cert.specs.Lines.{ReadsAs}
 use Rattle.geo_cert.specs.Shapes.{IsCount, IsWhole, IsWithin, IsWithinClaim, IsWithinDef, IsWithinDegree, IsWithinElement, IsWithinFinding, IsWithinGrid, IsWithinValue, certificate_data, claim_items, count_data, def_items, degree_items, element_items, finding_data, grid_items, row_data, rows_data, value_items, whole_data, wholes_items}
 use Rattle.geo_cert.specs.Words.{text_of_claim, text_of_def, text_of_kind}
 use Rattle.geo_cert.specs.Written.{line_of, written_version}
+use Rattle.geo_cert.specs.declared.limits.TheConstants.{CERTIFICATE_LIMIT}
 
 -- its text is UTF-8, and stands for a tree that reads as the value
 record ReadsBack (deep : ℕ) (d : Data) : Type 0 where
@@ -241,7 +242,7 @@ text_reads d p =
     ∙ ap (λ o. option_and_then of_json (option_and_then (λ q. json.if_last q.0 q.1) o)) (value-json_tokens j max_depth [] (omega (arith, p.shallow)))
     ∙ p.back
 
-pub line_reads : (c : Certificate) → IsWithin c → length (line_of c) ≤ line_limit → ReadsAs (line_of c) c
+pub line_reads : (c : Certificate) → IsWithin c → length (line_of c) ≤ CERTIFICATE_LIMIT → ReadsAs (line_of c) c
 line_reads c within short =
     let p = finding_back c.claim c.elements written_version c.finding within.1 within.0 (omega arith) within.2 in
     (certificate_data written_version c, (short, p.text, text_reads (certificate_data written_version c) p), (within, (written_version, refl, refl)))

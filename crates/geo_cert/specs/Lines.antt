@@ -7,17 +7,15 @@ use Rattle.geo_cert.specs.declared.certificates.CertStop.{CertStop}
 use Rattle.geo_cert.specs.declared.certificates.CertStop.TheVariants.{Bad, NoMemory}
 use Rattle.geo_cert.specs.declared.certificates.Certificate.{Certificate}
 use Rattle.geo_cert.specs.Shapes.{IsDataOf}
-
-abbrev pub line_limit : ℕ
-line_limit = 65536
+use Rattle.geo_cert.specs.declared.limits.TheConstants.{CERTIFICATE_LIMIT}
 
 -- the line is text of at most this many bytes that reads as this value
 abbrev pub HasData : List ℕ → Data → Type 0
-HasData line d = (length line ≤ line_limit) × IsUtf8 line × (read line ≡ Some d)
+HasData line d = (length line ≤ CERTIFICATE_LIMIT) × IsUtf8 line × (read line ≡ Some d)
 
 -- it is longer, or no text, or reads as no value
 abbrev pub HasNone : List ℕ → Type 0
-HasNone line = (line_limit < length line) ⊎ (IsUtf8 line → read line ≡ None)
+HasNone line = (CERTIFICATE_LIMIT < length line) ⊎ (IsUtf8 line → read line ≡ None)
 
 -- it reads as a value that is this certificate in one of the versions
 abbrev pub ReadsAs : List ℕ → Certificate → Type 0

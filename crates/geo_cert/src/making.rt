@@ -4,7 +4,8 @@ ghost use Rattle.std.specs.Prelude.{◌≡◌, ◌≤◌, ◌<◌, ◌+◌, ◌+
 ghost use Rattle.std.specs.Option.{IfSome, option_to_list};
 ghost use Rattle.geo_sketch.specs.Lookups.{IsLive};
 ghost use Rattle.geo_sketch.specs.Needs.{entry_of, needed_list, needs as is_needed, AtStated};
-ghost use Rattle.geo_sketch.specs.Sketches.{number_limit, IsPosed};
+ghost use Rattle.geo_sketch.specs.Sketches.{IsPosed};
+ghost use Rattle.geo_sketch.specs.declared.limits.TheConstants.{NUMBER_LIMIT};
 ghost use Rattle.geo_degree.specs.Degrees.{statement_degree, statement_degree_limit};
 ghost use Rattle.geo_degree.specs.Grids.{grid_values as first_grid_values};
 ghost use Rattle.geo_cert.specs.Making.{certificate_by, degrees_of, element_degree, finding_by, values_for, IsLowEntry};
@@ -16,7 +17,8 @@ use crate::element_lists::ElementList;
 use crate::grid_lists::GridList;
 use geo_degree::{Degrees, grid_value};
 use geo_sketch::{
-    Def, Element, NoMemory, Sketch, Statement, Values, Verdict, first_parameter, second_parameter,
+    Def, Element, NoMemory, Sketch, Statement, Values, Verdict, copy_values, first_parameter,
+    second_parameter,
 };
 use std::alloc::Global;
 
@@ -86,7 +88,7 @@ fn add_degree(
     grid: &mut GridList,
 ) -> Result<(), NoMemory>
     requires live { AtStated s.now (IsLive table.now) }
-    requires low { element.now.number < number_limit }
+    requires low { element.now.number < NUMBER_LIMIT }
     ensures degrees { OnOk result (degrees.new ≡ degrees.old ++ option_to_list (element_degree (statement_degree table.now s.now) element.now)) }
     ensures grid { OnOk result (grid.new ≡ grid.old ++ map values_for (option_to_list (element_degree (statement_degree table.now s.now) element.now))) }
 {
@@ -103,7 +105,7 @@ fn add_degree(
 /// same in both parameters of a free element.
 fn degree_of_element(table: &Degrees, s: &Statement, element: &Element) -> Option<DegreeEntry>
     requires live { AtStated s.now (IsLive table.now) }
-    requires low { element.now.number < number_limit }
+    requires low { element.now.number < NUMBER_LIMIT }
     ensures entry { result ≡ element_degree (statement_degree table.now s.now) element.now }
     ensures low { IfSome result IsLowEntry }
 {
@@ -155,19 +157,6 @@ fn list_values(alloc: Global, degree: u64) -> Result<Vec<i64>, NoMemory>
     Ok(values)
 }
 
-fn copy_values(alloc: Global, values: &Values) -> Result<Values, NoMemory>
-    ensures { IfOk result (λ copy. copy ≡ values.now) }
-{
-    let mut copy = Values::new(alloc);
-    for k in 0..values.len() {
-        match values.get(k) {
-            Some((param, value)) => copy.push(param, value)?,
-            None => unreachable!(),
-        }
-    }
-    Ok(copy)
-}
-
 /// The elements that a statement needs, by rising number.
 fn list_needed(alloc: Global, sketch: &Sketch, s: &Statement) -> Result<ElementList, NoMemory>
     requires { AtStated s.now (IsLive sketch.now.elements) }
@@ -189,25 +178,9 @@ fn add_needed(
     requires { AtStated s.now (IsLive sketch.now.elements) }
     ensures { OnOk result (list.new ≡ list.old ++ (if is_needed sketch.now.elements s.now element.now.number then entry_of element.now ∷ [] else [])) }
 {
-    if needs(sketch, s, element.number) {
+    if sketch.needs(s, element.number) {
         list.push(element.number, element.kind, element.def)
     } else {
         Ok(())
-    }
-}
-
-/// Whether the statement names an element that depends on element n.
-fn needs(sketch: &Sketch, s: &Statement, n: u32) -> bool
-    requires { AtStated s.now (IsLive sketch.now.elements) }
-    ensures { result ≡ is_needed sketch.now.elements s.now n }
-{
-    match s {
-        Statement::Null(a) => sketch.depends(*a, n),
-        Statement::Same(a, b) | Statement::On(a, b) => {
-            sketch.depends(*a, n) || sketch.depends(*b, n)
-        }
-        Statement::Triple(a, b, c) => {
-            sketch.depends(*a, n) || sketch.depends(*b, n) || sketch.depends(*c, n)
-        }
     }
 }

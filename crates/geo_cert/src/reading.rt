@@ -4,20 +4,18 @@ ghost use Rattle.geo_cert.specs.Lines.{IsAnswer, Reads};
 ghost use Rattle.serde_json.specs.View.{view};
 
 use crate::certificates::{CertStop, Certificate};
+use crate::limits::CERTIFICATE_LIMIT;
 use crate::members::certificate_of;
 use geo_sketch::NoMemory;
 use serde_json::Value;
 use std::alloc::Global;
-
-/// The greatest number of bytes of a line.
-const LINE_LIMIT: usize = 65_536;
 
 /// Reads a line, in version 1 or 2: Bad(1) where it is too long or no JSON, and otherwise
 /// Bad(2) where the value is no certificate.
 pub fn read(alloc: Global, line: &[u8]) -> Result<Certificate, CertStop>
     ensures { Reads line.now result }
 {
-    if line.len() > LINE_LIMIT {
+    if line.len() > CERTIFICATE_LIMIT {
         return Err(CertStop::Bad(1));
     }
     match Value::from_slice(alloc, line) {

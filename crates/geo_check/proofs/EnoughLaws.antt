@@ -1,6 +1,6 @@
 -- Right degrees and a grid for them: each entry has enough values, and every parameter that matters
 -- stands in an entry.
-use Rattle.std.proofs.Common.{◌≡◌, ◌≢◌, ◌∙◌, sym, ap, subst, refl, inl, inr, ⊎_elim, ℕ, zero, suc, ◌+◌, ◌*◌, ◌/◌, ◌<◌, ◌≤◌, ◌==◌, Bool, true, false, if◌then◌else◌, Option, None, Some, option_map, List, [], ◌∷◌, ◌++◌, length, ℤ, pos, negsuc, arith}
+use Rattle.std.proofs.Common.{◌≡◌, ◌∙◌, sym, subst, refl, ⊎_elim, ℕ, ◌<◌, ◌==◌, Bool, true, false, if◌then◌else◌, Some, option_map, List, [], ◌∷◌, ◌++◌, length, ℤ, pos, negsuc, arith}
 use Rattle.std.specs.Prelude.{◌&&◌, ◌||◌, not}
 use Rattle.std.specs.List.{list_all, AllByRecursion}
 use Rattle.std.proofs.lemmas.Bool.{and_parts, eqb-true, eqb-false, leb-true, ltb-true}
@@ -9,17 +9,17 @@ use Rattle.geo_sketch.specs.declared.elements.Def.{Def}
 use Rattle.geo_sketch.specs.declared.elements.Def.TheVariants.{Free, Fixed, Cut, Blend, Cross}
 use Rattle.geo_sketch.specs.declared.elements.Element.{Element}
 use Rattle.geo_sketch.specs.declared.statements.Statement.{Statement}
-use Rattle.geo_sketch.specs.Assignments.{element_of_parameter, first_parameter, second_parameter}
+use Rattle.geo_sketch.specs.Assignments.{element_of_parameter, first_parameter, second_parameter, own_parameters}
 use Rattle.geo_sketch.specs.Constructions.{IsConstruction}
 use Rattle.geo_sketch.specs.Lookups.{def_at, numbered}
 use Rattle.geo_degree.specs.Degrees.{statement_degree}
-use Rattle.geo_degree.specs.Grids.{own_parameters, parameters_of}
+use Rattle.geo_degree.specs.Grids.{parameters_of}
 use Rattle.geo_degree.proofs.AxisLaws.{statement_parameter, Has}
 use Rattle.geo_cert.specs.declared.degree_lists.DegreeEntry.{DegreeEntry}
 use Rattle.geo_cert.specs.declared.degree_lists.DegreeEntry.TheVariants.{One, Pair}
 use Rattle.geo_cert.specs.Grids.{Grid, one, two}
 use Rattle.geo_check.specs.Degrees.{allowed, are_apart, are_of_free, are_right, is_among, is_at_most, is_free, is_owned, named_by, rise_from}
-use Rattle.geo_check.specs.Grids.{are_enough, are_for, are_more, is_for}
+use Rattle.geo_check.specs.Grids.{are_for, are_more}
 use Rattle.geo_check.proofs.ListLaws.{distinct}
 use Rattle.geo_check.proofs.ZeroLaws.{parameters_on, HasEnough}
 

@@ -1,8 +1,7 @@
 -- The entry of a grid at a place.
-use Rattle.std.proofs.Common.{◌≡◌, ◌∙◌, sym, ap, subst, refl, ℕ, zero, suc, ◌+◌, ◌<◌, ◌≤◌, Option, None, Some, option_map, List, [], ◌∷◌, length, get_or, drop, ℤ, arith, add-one, drop-cons}
+use Rattle.std.proofs.Common.{◌≡◌, ◌∙◌, sym, ap, refl, ℕ, zero, suc, ◌+◌, ◌<◌, ◌≤◌, Some, option_map, List, [], ◌∷◌, length, get_or, drop, ℤ, arith, add-one, drop-cons}
 use Rattle.std.specs.Prelude.{slice_get, option_and_then}
 use Rattle.std.proofs.lemmas.Option.{slice_get-get_or}
-use Rattle.geo_cert.specs.declared.grid_lists.GridHead.{GridHead}
 use Rattle.geo_cert.specs.declared.grid_lists.GridHead.TheVariants as head
 use Rattle.geo_cert.specs.Grids.{Grid, first_values, head_of, one, second_values, two}
 

@@ -12,13 +12,15 @@ use Rattle.geo_sketch.specs.declared.elements.Kind.TheVariants.{Point}
 use Rattle.geo_sketch.specs.declared.statements.Statement.{Statement}
 use Rattle.geo_sketch.specs.declared.statements.Statement.TheVariants as statement
 use Rattle.geo_sketch.specs.Assignments.{magnitudes}
-use Rattle.geo_sketch.specs.Constructions.{by_def, computed, AtNamed, IsConstruction}
+use Rattle.geo_sketch.specs.Constructions.{by_def, AtNamed, IsConstruction}
 use Rattle.geo_sketch.specs.Dependence.{depends_on}
 use Rattle.geo_sketch.specs.Heights.{statement_height}
 use Rattle.geo_sketch.specs.Lookups.{numbered, IsLive}
 use Rattle.geo_sketch.specs.Needs.{needs, stated, AtStated}
-use Rattle.geo_sketch.specs.Sketches.{number_limit, Drawing, IsDrawn}
-use Rattle.geo_sketch.specs.Statements.{coordinates, parts_at}
+use Rattle.geo_sketch.specs.Sketches.{Drawing, IsDrawn}
+use Rattle.geo_sketch.specs.declared.limits.TheConstants.{NUMBER_LIMIT}
+use Rattle.geo_sketch.specs.Statements.{parts_at}
+use Rattle.geo_triple.specs.Zero.{coordinates}
 use Rattle.geo_sketch.specs.Tables.{place}
 use Rattle.geo_sketch.specs.Triples.{triple_algebra, triple_at}
 use Rattle.geo_sketch.proofs.ConstructionLaws.{at_named, both_named, by_def_same}
@@ -29,28 +31,28 @@ use Rattle.geo_sketch.proofs.SketchLaws.{constructed}
 use Rattle.geo_sketch.proofs.StatementLaws.{at_stated}
 use Rattle.geo_sketch.proofs.TableLaws.{found_at, number_at, place_before, place_within}
 use Rattle.geo_height.specs.Bounds.{statement_sum, sums_by, IsWithin}
-use Rattle.geo_height.specs.Capped.{statement_limit}
+use Rattle.geo_triple.specs.declared.limits.TheConstants.{STATEMENT_LIMIT}
 use Rattle.geo_height.proofs.HeightLaws.{statement_sum_below, sums_on_the_way}
 use Rattle.geo_check.specs.Positions.{parts_of, triple_of, AreKnown}
 
 -- ---- numbers
-pub numbers_low : (drawing : Drawing) → IsDrawn drawing → (n : ℕ) (e : Element) → numbered drawing.elements n ≡ Some e → n < number_limit
+pub numbers_low : (drawing : Drawing) → IsDrawn drawing → (n : ℕ) (e : Element) → numbered drawing.elements n ≡ Some e → n < NUMBER_LIMIT
 numbers_low drawing drawn n e q = omega (arith, drawn.given n e q, drawn.numbers_room)
 
-pub number_low : (drawing : Drawing) (i : ℕ) (x : Element) → IsDrawn drawing → i < length drawing.elements → x ≡ get_or drawing.elements i x → x.number < number_limit
+pub number_low : (drawing : Drawing) (i : ℕ) (x : Element) → IsDrawn drawing → i < length drawing.elements → x ≡ get_or drawing.elements i x → x.number < NUMBER_LIMIT
 number_low drawing i x drawn l same =
     let there = number_at 0 drawing.elements i x drawn.rising l in
     let low = numbers_low drawing drawn _ _ there.0 in
-    subst (λ (y : Element). y.number < number_limit) (sym same) low
+    subst (λ (y : Element). y.number < NUMBER_LIMIT) (sym same) low
 
 -- the elements that an element names have numbers below the limit too
-pub named_low : (drawing : Drawing) (i : ℕ) (x : Element) → IsDrawn drawing → i < length drawing.elements → x ≡ get_or drawing.elements i x → AtNamed x.def (λ k. k < number_limit)
+pub named_low : (drawing : Drawing) (i : ℕ) (x : Element) → IsDrawn drawing → i < length drawing.elements → x ≡ get_or drawing.elements i x → AtNamed x.def (λ k. k < NUMBER_LIMIT)
 named_low drawing i x drawn l same =
     let es = drawing.elements in
     let there = number_at 0 es i x drawn.rising l in
     let e = get_or es i x in
-    subst (λ (y : Element). AtNamed y.def (λ k. k < number_limit)) (sym same)
-    (at_named (λ k. (k < e.number) × IsLive es k) (λ k. k < number_limit) e.def (λ k h. numbers_low drawing drawn k h.1.0 h.1.1) ((constructed drawing drawn).named e.number e there.0))
+    subst (λ (y : Element). AtNamed y.def (λ k. k < NUMBER_LIMIT)) (sym same)
+    (at_named (λ k. (k < e.number) × IsLive es k) (λ k. k < NUMBER_LIMIT) e.def (λ k h. numbers_low drawing drawn k h.1.0 h.1.1) ((constructed drawing drawn).named e.number e there.0))
 
 -- ---- sums of what is the same
 sums_same : (v : ℕ → ℤ) (n : ℕ) (d : Def) (f g : ℕ → Triple) → AtNamed d (λ k. f k ≡ g k) → sums_by v n d f ≡ sums_by v n d g
@@ -91,14 +93,14 @@ module _ (drawing : Drawing) (drawn : IsDrawn drawing) (s : Statement) (live : A
       (c.named n e q) (depends_on_named es c n e q)
 
   -- so its own can be computed
-  pub sums_low : (triples : List Triple) (i : ℕ) (x : Element) → i < length es → x ≡ get_or es i x → needs es s x.number ≡ true → AreKnown es s v triples i → statement_height es s (magnitudes v) ≤ statement_limit → largest_of (sums_by v x.number x.def (triple_of triples)) ≤ statement_limit
+  pub sums_low : (triples : List Triple) (i : ℕ) (x : Element) → i < length es → x ≡ get_or es i x → needs es s x.number ≡ true → AreKnown es s v triples i → statement_height es s (magnitudes v) ≤ STATEMENT_LIMIT → largest_of (sums_by v x.number x.def (triple_of triples)) ≤ STATEMENT_LIMIT
   sums_low triples i x l same need known low =
       let at = number_at 0 es i x drawn.rising l in
       let found : numbered es x.number ≡ Some x = rw same at.0 in
       let there : place es x.number ≡ i = rw same at.1 in
-      subst (λ g. largest_of g ≤ statement_limit)
+      subst (λ g. largest_of g ≤ STATEMENT_LIMIT)
       (sym (sums_same v x.number x.def (triple_of triples) (λ k. triple_at es k v) (named_known triples x.number x found need (subst (AreKnown es s v triples) (sym there) known))))
-      (sums_on_the_way drawing drawn v (magnitudes v) itself_within s x.number x statement_limit live low need found)
+      (sums_on_the_way drawing drawn v (magnitudes v) itself_within s x.number x STATEMENT_LIMIT live low need found)
 
   pub known_more : (triples : List Triple) (i : ℕ) (x : Element) → i < length es → x ≡ get_or es i x → needs es s x.number ≡ true → x.number < length triples → AreKnown es s v triples i → AreKnown es s v (set triples x.number (by_def (triple_algebra v) x.number x.def (triple_of triples))) (i + 1)
   known_more triples i x l same need room known n f q within needed =
@@ -140,13 +142,13 @@ module _ (drawing : Drawing) (drawn : IsDrawn drawing) (s : Statement) (live : A
   pub parts_known : (triples : List Triple) → AreKnown es s v triples (length es) → parts_of s (triple_of triples) ≡ parts_at es s v
   parts_known triples known = parts_same es s v (triple_of triples) (stated_known triples known)
 
-  pub sum_low : (triples : List Triple) → AreKnown es s v triples (length es) → statement_height es s (magnitudes v) ≤ statement_limit → statement_sum s (triple_of triples) ≤ statement_limit
+  pub sum_low : (triples : List Triple) → AreKnown es s v triples (length es) → statement_height es s (magnitudes v) ≤ STATEMENT_LIMIT → statement_sum s (triple_of triples) ≤ STATEMENT_LIMIT
   sum_low triples known low =
-      subst (λ k. k ≤ statement_limit) (sym (statement_sum_same s (triple_of triples) (λ n. triple_at es n v) (stated_known triples known)))
+      subst (λ k. k ≤ STATEMENT_LIMIT) (sym (statement_sum_same s (triple_of triples) (λ n. triple_at es n v) (stated_known triples known)))
       (le_trans (statement_sum_below es c v (magnitudes v) itself_within s live) low)
 
 -- the elements that a statement names have numbers below the limit
-pub stated_low : (drawing : Drawing) → IsDrawn drawing → (s : Statement) → AtStated s (IsLive drawing.elements) → (count : ℕ) → count ≡ number_limit → AtStated s (λ n. n < count)
+pub stated_low : (drawing : Drawing) → IsDrawn drawing → (s : Statement) → AtStated s (IsLive drawing.elements) → (count : ℕ) → count ≡ NUMBER_LIMIT → AtStated s (λ n. n < count)
 stated_low drawing drawn s live count room = at_stated (IsLive drawing.elements) (λ n. n < count) s (λ n h. omega (arith, numbers_low drawing drawn n h.0 h.1, room)) live
 
 pub flag_at : (es : List Element) (s : Statement) (needed : List Bool) (i : ℕ) (x : Element) (d : Bool) → needed ≡ map (λ (e : Element). needs es s e.number) es → i < length es → get_or needed i d ≡ needs es s (get_or es i x).number

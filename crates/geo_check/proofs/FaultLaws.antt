@@ -1,12 +1,12 @@
 -- Which number applies first, from what was tested.
-use Rattle.std.proofs.Common.{◌≡◌, ◌∙◌, sym, ap, subst, refl, ℕ, ◌<◌, ◌≤◌, Bool, true, false, if◌then◌else◌, Option, None, Some, List, map, arith}
+use Rattle.std.proofs.Common.{◌≡◌, ◌∙◌, sym, ap, refl, ℕ, ◌≤◌, Bool, true, false, if◌then◌else◌, Option, None, Some}
 use Rattle.std.specs.Prelude.{◌&&◌, not, nat_lt, is_none, is_some}
-use Rattle.std.proofs.lemmas.Bool.{and_from, and_parts, cond_both, ltb-true, ltb-false}
-use Rattle.geo_sketch.specs.declared.elements.Element.{Element}
+use Rattle.std.proofs.lemmas.Bool.{and_from, ltb-false}
 use Rattle.geo_sketch.specs.Posing.{is_posed}
-use Rattle.geo_sketch.specs.Rebuilding.{at_zero, is_sound, listed, rebuilt}
+use Rattle.geo_sketch.specs.Rebuilding.{at_zero, is_sound, rebuilt}
 use Rattle.geo_sketch.specs.Sketches.{Drawing}
-use Rattle.geo_height.specs.Capped.{statement_limit, within_limit}
+use Rattle.geo_height.specs.Capped.{within_limit}
+use Rattle.geo_triple.specs.declared.limits.TheConstants.{STATEMENT_LIMIT}
 use Rattle.geo_cert.specs.declared.certificates.Certificate.{Certificate}
 use Rattle.geo_check.specs.Faults.{elements_in, finding_fault, first_fault, unless}
 
@@ -53,13 +53,13 @@ height_by : (b : Bool) (h : ℕ) → is_none (if b then None else Some h) ≡ b
 height_by true h = refl
 height_by false h = refl
 
-pub high : (h : ℕ) → is_none (within_limit h) ≡ true → not (nat_lt statement_limit h) ≡ false
-high h t = ap not (sym (height_by (nat_lt statement_limit h) h) ∙ t)
+pub high : (h : ℕ) → is_none (within_limit h) ≡ true → not (nat_lt STATEMENT_LIMIT h) ≡ false
+high h t = ap not (sym (height_by (nat_lt STATEMENT_LIMIT h) h) ∙ t)
 
-pub low : (h : ℕ) → is_none (within_limit h) ≡ false → (not (nat_lt statement_limit h) ≡ true) × (h ≤ statement_limit)
+pub low : (h : ℕ) → is_none (within_limit h) ≡ false → (not (nat_lt STATEMENT_LIMIT h) ≡ true) × (h ≤ STATEMENT_LIMIT)
 low h t =
-    let below : nat_lt statement_limit h ≡ false = sym (height_by (nat_lt statement_limit h) h) ∙ t in
-    (ap not below, ltb-false statement_limit h below)
+    let below : nat_lt STATEMENT_LIMIT h ≡ false = sym (height_by (nat_lt STATEMENT_LIMIT h) h) ∙ t in
+    (ap not below, ltb-false STATEMENT_LIMIT h below)
 
 not_twice : (a r : Bool) → a ≡ not r → not a ≡ r
 not_twice true true e = sym e

@@ -1,5 +1,5 @@
 -- Tests of lists, and what they say.
-use Rattle.std.proofs.Common.{◌≡◌, ◌≢◌, ◌∙◌, sym, ap, subst, refl, inl, inr, ⊎_elim, ℕ, zero, suc, ◌+◌, ◌<◌, ◌≤◌, ◌==◌, not, ◌||◌, Bool, true, false, List, [], ◌∷◌, length, get_or, take, All, ℤ, pos, arith, length-take}
+use Rattle.std.proofs.Common.{◌≡◌, ◌≢◌, sym, subst, refl, ℕ, zero, suc, ◌+◌, ◌<◌, ◌≤◌, not, ◌||◌, Bool, true, false, List, [], ◌∷◌, length, get_or, take, ℤ, pos, arith, length-take}
 use Rattle.std.specs.Bool.{Decides}
 use Rattle.std.specs.List.{list_all}
 use Rattle.std.specs.Ordering.{int_eq}
@@ -7,8 +7,7 @@ use Rattle.std.proofs.lemmas.Bool.{and_from, and_parts}
 use Rattle.std.proofs.lemmas.Bool.Decides.{Decides-int_eq}
 use Rattle.std.proofs.lemmas.List.{get_or-take}
 use Rattle.geo_law.specs.Coefficients.{AreDistinct}
-use Rattle.geo_sketch.specs.Statements.{AreZero}
-use Rattle.geo_degree.specs.VerdictFunction.{are_zero}
+use Rattle.geo_triple.specs.Zero.{AreZero, are_zero}
 use Rattle.geo_check.specs.Grids.{are_different, has_value}
 use Rattle.geo_check.specs.Instances.{on_triangle}
 

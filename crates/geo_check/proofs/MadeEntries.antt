@@ -1,23 +1,21 @@
 -- The degrees and the grid that are made of a sketch's own statement are right for it.
-use Rattle.std.proofs.Common.{◌≡◌, ◌∙◌, sym, ap, subst, refl, ℕ, zero, suc, ◌+◌, ◌*◌, ◌/◌, ◌<◌, ◌≤◌, ◌++◌, ℤ, pos, negsuc, Option, None, Some, List, [], ◌∷◌, length, map, arith, length-append}
-use Rattle.std.specs.Prelude.{Bool, true, false, ◌==◌, ◌&&◌, ◌||◌, if◌then◌else◌, nat_le, nat_lt, not, unsigned_abs, max}
+use Rattle.std.proofs.Common.{◌≡◌, sym, subst, refl, ℕ, zero, suc, ◌+◌, ◌*◌, ◌/◌, ◌<◌, ◌≤◌, ◌++◌, ℤ, pos, Option, None, Some, List, [], ◌∷◌, length, map, arith}
+use Rattle.std.specs.Prelude.{Bool, true, false, ◌==◌, ◌&&◌, ◌||◌, if◌then◌else◌, nat_le, nat_lt, not}
 use Rattle.std.specs.List.{AllByRecursion, cons_option, filter_map, list_all}
 use Rattle.std.specs.Option.{IfSome}
 use Rattle.std.specs.Ordering.{int_eq}
-use Rattle.std.proofs.lemmas.Bool.{and_parts, cond_both, ltb-true, ltb-false, or_parts}
+use Rattle.std.proofs.lemmas.Bool.{and_parts, cond_both, ltb-false, or_parts}
 use Rattle.std.proofs.lemmas.Bool.Decides.{nat_tests}
 use Rattle.std.proofs.lemmas.Int.{ints}
-use Rattle.std.proofs.lemmas.List.Folds.{list_all-append}
 use Rattle.geo_sketch.specs.declared.elements.Def.{Def}
 use Rattle.geo_sketch.specs.declared.elements.Def.TheVariants.{Free, Fixed, Cut, Blend, Cross}
 use Rattle.geo_sketch.specs.declared.elements.Element.{Element}
-use Rattle.geo_sketch.specs.Assignments.{element_of_parameter, first_parameter, second_parameter}
+use Rattle.geo_sketch.specs.Assignments.{first_parameter, second_parameter, own_parameters}
 use Rattle.geo_sketch.specs.Lookups.{def_at, numbered, Rises}
-use Rattle.geo_degree.specs.Grids.{grid_value, grid_values, own_parameters, parameters_of}
+use Rattle.geo_degree.specs.Grids.{grid_value, grid_values, parameters_of}
 use Rattle.geo_degree.proofs.GridLaws.{length_values}
 use Rattle.geo_cert.specs.declared.degree_lists.DegreeEntry.{DegreeEntry}
 use Rattle.geo_cert.specs.declared.degree_lists.DegreeEntry.TheVariants.{One, Pair}
-use Rattle.geo_cert.specs.Grids.{Grid, one, two}
 use Rattle.geo_cert.specs.Making.{element_degree, own_degree, values_for, where_above}
 use Rattle.geo_check.specs.Degrees.{allowed, are_apart, are_of_free, first_of, is_among, is_at_most, is_free, is_owned, named_by, rise_from}
 use Rattle.geo_check.specs.Grids.{are_different, are_enough, are_for, are_more, has_value, is_for}

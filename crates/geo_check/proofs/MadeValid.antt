@@ -1,6 +1,6 @@
 -- What is made of a statement's own verdict is refused by no number.
-use Rattle.std.proofs.Common.{◌≡◌, ◌∙◌, sym, ap, ap₂, subst, refl, inl, inr, ℕ, zero, suc, ◌+◌, ◌*◌, ◌/◌, ◌<◌, ◌≤◌, ◌++◌, ℤ, pos, Option, None, Some, List, [], ◌∷◌, length, get_or, map, take, max, arith}
-use Rattle.std.specs.Prelude.{Bool, true, false, ◌==◌, ◌&&◌, if◌then◌else◌, nat_lt, not, unsigned_abs, option_map}
+use Rattle.std.proofs.Common.{◌≡◌, ◌∙◌, sym, ap, ap₂, subst, refl, inl, inr, ℕ, zero, suc, ◌+◌, ◌*◌, ◌/◌, ◌<◌, ◌≤◌, ◌++◌, ℤ, pos, Option, None, Some, List, [], ◌∷◌, length, map, take, max, arith}
+use Rattle.std.specs.Prelude.{Bool, true, false, ◌==◌, ◌&&◌, if◌then◌else◌, nat_lt, not, unsigned_abs}
 use Rattle.std.specs.List.{AllByRecursion, AllZip, cons_option, filter_map, list_all}
 use Rattle.std.proofs.lemmas.Bool.Decides.{nat_tests}
 use Rattle.std.proofs.lemmas.Grind.{common_steps}
@@ -14,7 +14,7 @@ use Rattle.geo_sketch.specs.declared.statements.Statement.{Statement}
 use Rattle.geo_sketch.specs.declared.statements.Statement.TheVariants as statement
 use Rattle.geo_sketch.specs.declared.verdicts.Verdict.{Verdict}
 use Rattle.geo_sketch.specs.declared.verdicts.Verdict.TheVariants as verdict
-use Rattle.geo_sketch.specs.Assignments.{assignment_of, first_parameter, second_parameter}
+use Rattle.geo_sketch.specs.Assignments.{assignment_of, own_parameters}
 use Rattle.geo_sketch.specs.Constructions.{IsConstruction}
 use Rattle.geo_sketch.specs.Heights.{statement_height}
 use Rattle.geo_sketch.specs.Lookups.{numbered}
@@ -23,23 +23,23 @@ use Rattle.geo_sketch.specs.Posing.{is_posed}
 use Rattle.geo_sketch.specs.Rebuilding.{at_zero, is_sound, AreSound}
 use Rattle.geo_sketch.specs.Samples.{sample_value}
 use Rattle.geo_sketch.specs.Sketches.{Drawing, IsDrawn, IsPosed}
-use Rattle.geo_sketch.specs.Statements.{parts_at, AreZero, Holds}
-use Rattle.geo_sketch.proofs.NeededParts.{at_needed, needed_height, needed_holds, needed_parts, needed_posed, needed_sound, needed_values}
+use Rattle.geo_sketch.specs.Statements.{parts_at, Holds}
+use Rattle.geo_triple.specs.Zero.{AreZero, are_zero}
+use Rattle.geo_sketch.proofs.NeededParts.{at_needed, needed_height, needed_parts, needed_posed, needed_sound, needed_values}
 use Rattle.geo_sketch.proofs.PosingLaws.{decides_posed}
 use Rattle.geo_sketch.proofs.SketchLaws.{constructed}
 use Rattle.geo_sketch.proofs.SoundLaws.{decides_sound, drawn_sound, rebuilt_drawn, rebuilt_where}
 use Rattle.geo_sketch.proofs.TableLaws.{number_at}
 use Rattle.geo_height.specs.Bounds.{magnitude_of}
-use Rattle.geo_height.specs.Capped.{statement_limit}
+use Rattle.geo_triple.specs.declared.limits.TheConstants.{STATEMENT_LIMIT}
 use Rattle.geo_height.proofs.HeightLaws.{statement_height_grows}
 use Rattle.geo_degree.specs.declared.grids.Axis.{Axis}
 use Rattle.geo_degree.specs.declared.grids.Block.{Block}
 use Rattle.geo_degree.specs.declared.grids.Block.TheVariants as block
-use Rattle.geo_degree.specs.Blocks.{block_of_degree, blocks_among, blocks_of, own_blocks, point_count, points_of, points_of_all}
+use Rattle.geo_degree.specs.Blocks.{blocks_among, own_blocks, points_of, points_of_all}
 use Rattle.geo_degree.specs.Degrees.{degree_algebra, degree_of, statement_degree}
-use Rattle.geo_degree.specs.Grids.{at_axes, axes_among, axes_of, axis, axis_magnitude, grid_size, grid_value, grid_values, own_parameters, parameters_of, values_on}
-use Rattle.geo_degree.specs.Questions.{grid_magnitudes, point, sample, size_limit, IsWithinLimits, IsZeroAt}
-use Rattle.geo_degree.specs.VerdictFunction.{are_zero}
+use Rattle.geo_degree.specs.Grids.{at_axes, axes_among, axes_of, axis, axis_magnitude, grid_size, grid_value, grid_values, parameters_of, values_on}
+use Rattle.geo_degree.specs.Questions.{grid_magnitudes, point, sample, IsWithinLimits, IsZeroAt}
 use Rattle.geo_degree.specs.Verdicts.{named, question_of, IsStatementVerdict}
 use Rattle.geo_degree.proofs.BlockLaws.{length_points}
 use Rattle.geo_degree.proofs.FormLaws.{statement_form}
@@ -54,15 +54,16 @@ use Rattle.geo_cert.specs.declared.certificates.Finding.TheVariants as finding
 use Rattle.geo_cert.specs.declared.degree_lists.DegreeEntry.{DegreeEntry}
 use Rattle.geo_cert.specs.declared.degree_lists.DegreeEntry.TheVariants.{One, Pair}
 use Rattle.geo_cert.specs.Grids.{Grid, one, two}
-use Rattle.geo_cert.specs.Making.{certificate_by, degrees_of, element_degree, own_degree, values_for, where_above}
+use Rattle.geo_cert.specs.Making.{certificate_by, degrees_of, element_degree, own_degree, values_for}
 use Rattle.geo_cert.specs.Objects.{certificate}
 use Rattle.geo_check.specs.Degrees.{are_right}
 use Rattle.geo_check.specs.Faults.{false_fault, finding_fault, first_fault, proved_fault, unless}
-use Rattle.geo_check.specs.Grids.{are_for, are_values_for, largest, magnitudes_in, own_magnitudes, points_in, size_of, sizes_of_values}
+use Rattle.geo_check.specs.Grids.{are_for, are_values_for, largest, magnitudes_in, points_in, size_of, sizes_of_values}
 use Rattle.geo_check.specs.Instances.{is_zero_on, nothing_set, on_triangle}
 use Rattle.geo_check.proofs.ListLaws.{decides_zero}
 use Rattle.geo_check.proofs.MadeEntries.{all_for, all_right, both}
 use Rattle.geo_check.proofs.NeededDegrees.{needed, part_degrees, part_parameters, unneeded}
+use Rattle.geo_degree.specs.declared.limits.TheConstants.{SIZE_LIMIT}
 
 -- ---- the number of points is that of the statement's grid
 one_block : (b : Bool) (d : DegreeEntry) (x : Block) (ds : List DegreeEntry) (bs : List Block) → points_in (values_for d) ≡ length (points_of x) → size_of (map values_for ds) ≡ grid_size (points_of_all bs) → size_of (map values_for (cons_option (if b then Some d else None) ds)) ≡ grid_size (points_of_all ((if b then x ∷ [] else []) ++ bs))
@@ -256,7 +257,7 @@ module _ (drawing : Drawing) (drawn : IsDrawn drawing) (s : Statement) where
       subst (λ (ds : List DegreeEntry). are_right fs s ds ≡ true) degrees_same
       (all_right (statement_degree fs s) fs part_drawn.rising (found_all fs part_drawn) (alike_from fs (constructed (at_zero fs) part_drawn) fs (found_all fs part_drawn)))
 
-  grid_low : IsWithinLimits (question_of es s) → statement_height fs s (magnitude_of (magnitudes_in (map values_for (degrees_of es s)))) ≤ statement_limit
+  grid_low : IsWithinLimits (question_of es s) → statement_height fs s (magnitude_of (magnitudes_in (map values_for (degrees_of es s)))) ≤ STATEMENT_LIMIT
   grid_low limits =
       let m = magnitude_of (magnitudes_in (map values_for (degrees_of es s))) in
       let same : statement_height fs s m ≡ statement_height es s m = needed_height es c s m in
@@ -266,16 +267,16 @@ module _ (drawing : Drawing) (drawn : IsDrawn drawing) (s : Statement) where
   proved_valid : Holds es s → IsWithinLimits (question_of es s) → proved_fault fs s (degrees_of es s) (map values_for (degrees_of es s)) ≡ None
   proved_valid holds limits =
       let grid = map values_for (degrees_of es s) in
-      let size : size_of grid ≤ size_limit = omega (arith, sizes_match (statement_degree es s) es, limits.size) in
+      let size : size_of grid ≤ SIZE_LIMIT = omega (arith, sizes_match (statement_degree es s) es, limits.size) in
       let low = grid_low limits in
-      let small : not (nat_lt size_limit (size_of grid)) ≡ true = grind (arith, nat_tests) in
-      let modest : not (nat_lt statement_limit (statement_height fs s (magnitude_of (magnitudes_in grid)))) ≡ true = grind (arith, nat_tests) in
+      let small : not (nat_lt SIZE_LIMIT (size_of grid)) ≡ true = grind (arith, nat_tests) in
+      let modest : not (nat_lt STATEMENT_LIMIT (statement_height fs s (magnitude_of (magnitudes_in grid)))) ≡ true = grind (arith, nat_tests) in
       let zeros : (v : ℕ → ℤ) → AreZero (parts_at fs s v) = λ v. subst AreZero (sym (needed_parts es c s v)) (zero_everywhere es c s holds v) in
-      proved_passes (are_right fs s (degrees_of es s)) (are_for (degrees_of es s) grid) (not (nat_lt size_limit (size_of grid))) (not (nat_lt statement_limit (statement_height fs s (magnitude_of (magnitudes_in grid))))) (is_zero_on fs s grid nothing_set)
+      proved_passes (are_right fs s (degrees_of es s)) (are_for (degrees_of es s) grid) (not (nat_lt SIZE_LIMIT (size_of grid))) (not (nat_lt STATEMENT_LIMIT (statement_height fs s (magnitude_of (magnitudes_in grid))))) (is_zero_on fs s grid nothing_set)
       right (all_for (statement_degree es s) es) small modest (zero_on fs s zeros grid nothing_set)
 
   -- ---- of a claim that fails
-  values_low : (xs : List ℤ) (ms : List ℕ) → AllZip (λ x m. unsigned_abs x ≤ m) xs ms → statement_height es s (at_axes 0 (axes_of es s) ms) ≤ statement_limit → statement_height fs s (magnitude_of (sizes_of_values (named (axes_of es s) xs))) ≤ statement_limit
+  values_low : (xs : List ℤ) (ms : List ℕ) → AllZip (λ x m. unsigned_abs x ≤ m) xs ms → statement_height es s (at_axes 0 (axes_of es s) ms) ≤ STATEMENT_LIMIT → statement_height fs s (magnitude_of (sizes_of_values (named (axes_of es s) xs))) ≤ STATEMENT_LIMIT
   values_low xs ms within high =
       let axes = axes_of es s in
       let m = magnitude_of (sizes_of_values (named axes xs)) in
@@ -298,13 +299,13 @@ module _ (drawing : Drawing) (drawn : IsDrawn drawing) (s : Statement) where
       by_test true h = absurd (h refl)
       by_test false h = refl
 
-  false_valid : (xs : List ℤ) (ms : List ℕ) → length xs ≡ length (axes_of es s) → ¬ IsZeroAt (question_of es s) xs → AllZip (λ x m. unsigned_abs x ≤ m) xs ms → statement_height es s (at_axes 0 (axes_of es s) ms) ≤ statement_limit → false_fault fs s (named (axes_of es s) xs) ≡ None
+  false_valid : (xs : List ℤ) (ms : List ℕ) → length xs ≡ length (axes_of es s) → ¬ IsZeroAt (question_of es s) xs → AllZip (λ x m. unsigned_abs x ≤ m) xs ms → statement_height es s (at_axes 0 (axes_of es s) ms) ≤ STATEMENT_LIMIT → false_fault fs s (named (axes_of es s) xs) ≡ None
   false_valid xs ms long fails within high =
       let values = named (axes_of es s) xs in
       let for : are_values_for (parameters_of fs) values ≡ true = subst (λ (ps : List ℕ). are_values_for ps values ≡ true) parameters_same (values_right (axes_of es s) xs long) in
       let low = values_low xs ms within high in
-      let modest : not (nat_lt statement_limit (statement_height fs s (magnitude_of (sizes_of_values values)))) ≡ true = grind (arith, nat_tests) in
-      false_passes (are_values_for (parameters_of fs) values) (not (nat_lt statement_limit (statement_height fs s (magnitude_of (sizes_of_values values))))) (not (are_zero (parts_at fs s (assignment_of values)))) for modest (fails_there xs fails)
+      let modest : not (nat_lt STATEMENT_LIMIT (statement_height fs s (magnitude_of (sizes_of_values values)))) ≡ true = grind (arith, nat_tests) in
+      false_passes (are_values_for (parameters_of fs) values) (not (nat_lt STATEMENT_LIMIT (statement_height fs s (magnitude_of (sizes_of_values values))))) (not (are_zero (parts_at fs s (assignment_of values)))) for modest (fails_there xs fails)
 
   samples_small : (axes : List Axis) (t : ℕ) → AllZip (λ x m. unsigned_abs x ≤ m) (values_on axes (sample_value t)) (map (λ (a : Axis). 3) axes)
   samples_small [] t = tt

@@ -1,8 +1,8 @@
 -- A statement has a degree above 0 exactly in the parameters of the elements that it needs.
-use Rattle.std.proofs.Common.{◌≡◌, ◌∙◌, sym, ap, ap₂, subst, refl, ℕ, ◌+◌, ◌*◌, ◌/◌, ◌<◌, ◌≤◌, ◌++◌, max, Option, None, Some, List, [], ◌∷◌, length, map, arith}
+use Rattle.std.proofs.Common.{◌≡◌, ◌∙◌, ap, subst, refl, ℕ, ◌+◌, ◌*◌, ◌/◌, ◌<◌, ◌++◌, max, None, Some, List, [], ◌∷◌, map, arith}
 use Rattle.std.specs.Prelude.{Bool, true, false, ◌==◌, ◌||◌, filter, if◌then◌else◌, nat_lt}
 use Rattle.std.specs.List.{AllByRecursion, filter_map}
-use Rattle.std.proofs.lemmas.Bool.{cond_both, ltb-false, ltb-true, or_parts}
+use Rattle.std.proofs.lemmas.Bool.{cond_both, or_parts}
 use Rattle.std.proofs.lemmas.Bool.Decides.{nat_tests}
 use Rattle.geo_sketch.specs.declared.elements.Def.{Def}
 use Rattle.geo_sketch.specs.declared.elements.Def.TheVariants.{Free, Fixed, Cut, Blend, Cross}
@@ -12,14 +12,14 @@ use Rattle.geo_sketch.specs.declared.statements.Statement.TheVariants as stateme
 use Rattle.geo_sketch.specs.Constructions.{by_def, computed, AtNamed, IsConstruction}
 use Rattle.geo_sketch.specs.Dependence.{depends_algebra, depends_on}
 use Rattle.geo_sketch.specs.Lookups.{numbered, IsLive}
-use Rattle.geo_sketch.specs.Needs.{entry_of, needs, AtStated}
+use Rattle.geo_sketch.specs.Needs.{entry_of, needs}
 use Rattle.geo_sketch.specs.Rebuilding.{listed}
 use Rattle.geo_sketch.proofs.ConstructionLaws.{at_named}
 use Rattle.geo_sketch.proofs.LiveElements.{related}
 use Rattle.geo_degree.specs.declared.grids.Axis.{Axis}
 use Rattle.geo_degree.specs.Degrees.{degree_algebra, degree_of, statement_degree}
-use Rattle.geo_degree.specs.Grids.{axes_among, axis, own_parameters, parameters_of}
-use Rattle.geo_cert.specs.declared.degree_lists.DegreeEntry.{DegreeEntry}
+use Rattle.geo_degree.specs.Grids.{axes_among, parameters_of}
+use Rattle.geo_sketch.specs.Assignments.{own_parameters}
 use Rattle.geo_cert.specs.Making.{element_degree, own_degree}
 
 -- ---- what an element does not depend on

@@ -1,29 +1,29 @@
 -- Values that are set one after the other, and the grids on which they are set.
-use Rattle.std.proofs.Common.{◌≡◌, ◌≢◌, ◌∙◌, sym, ap, subst, refl, ℕ, zero, suc, ◌+◌, ◌*◌, ◌-◌, ◌/◌, ◌<◌, ◌≤◌, ◌==◌, max, Bool, true, false, if◌then◌else◌, Some, List, [], ◌∷◌, ◌++◌, length, get_or, set, take, drop, replicate, ℤ, pos, unsigned_abs, le_trans, arith, length-set, drop-cons, add-one}
-use Rattle.std.specs.Prelude.{◌&&◌, ◌||◌, not, nat_lt}
+use Rattle.std.proofs.Common.{◌≡◌, ◌≢◌, ◌∙◌, sym, ap, subst, refl, ℕ, zero, suc, ◌+◌, ◌*◌, ◌-◌, ◌/◌, ◌<◌, ◌≤◌, ◌==◌, Bool, true, false, List, [], ◌∷◌, ◌++◌, length, get_or, set, take, drop, replicate, ℤ, pos, unsigned_abs, le_trans, arith, length-set, drop-cons, add-one}
+use Rattle.std.specs.Prelude.{◌&&◌, ◌||◌, not}
 use Rattle.std.specs.List.{list_all, AllByRecursion}
-use Rattle.std.proofs.lemmas.Bool.{and_parts, cond_both, eqb-true, eqb-false, ltb-false}
-use Rattle.std.proofs.lemmas.List.{get_or-set_same, get_or-set_other, get_or-replicate, length-replicate, set-set, set-get_or}
+use Rattle.std.proofs.lemmas.Bool.{and_parts, cond_both, eqb-true, eqb-false}
+use Rattle.std.proofs.lemmas.List.{get_or-set_same, get_or-set_other, length-replicate, set-set, set-get_or}
 use Rattle.std.proofs.lemmas.List.Elements.{recursion_from_All}
 use Rattle.geo_sketch.specs.declared.elements.Element.{Element}
 use Rattle.geo_sketch.specs.declared.elements.Def.{Def}
 use Rattle.geo_sketch.specs.declared.elements.Def.TheVariants.{Free, Fixed, Cut, Blend, Cross}
 use Rattle.geo_sketch.specs.declared.statements.Statement.{Statement}
-use Rattle.geo_sketch.specs.Assignments.{magnitudes}
+use Rattle.geo_sketch.specs.Assignments.{magnitudes, own_parameters}
 use Rattle.geo_sketch.specs.Heights.{statement_height}
-use Rattle.geo_sketch.specs.Sketches.{number_limit, Drawing, IsDrawn}
+use Rattle.geo_sketch.specs.Sketches.{Drawing, IsDrawn}
+use Rattle.geo_sketch.specs.declared.limits.TheConstants.{NUMBER_LIMIT}
 use Rattle.geo_sketch.proofs.SketchLaws.{constructed}
 use Rattle.geo_sketch.proofs.TableLaws.{number_at}
-use Rattle.geo_height.specs.Bounds.{magnitude_of, IsWithin}
-use Rattle.geo_height.specs.Capped.{statement_limit}
+use Rattle.geo_height.specs.Bounds.{magnitude_of}
+use Rattle.geo_triple.specs.declared.limits.TheConstants.{STATEMENT_LIMIT}
 use Rattle.geo_height.proofs.HeightLaws.{statement_height_grows}
-use Rattle.geo_degree.specs.Degrees.{statement_degree}
-use Rattle.geo_degree.specs.Grids.{own_parameters, parameters_of}
+use Rattle.geo_degree.specs.Grids.{parameters_of}
 use Rattle.geo_degree.specs.Polynomials.{with_value}
 use Rattle.geo_cert.specs.declared.degree_lists.DegreeEntry.{DegreeEntry}
 use Rattle.geo_cert.specs.Grids.{Grid, one, two}
-use Rattle.geo_check.specs.Degrees.{are_apart, are_right, is_among, named_by}
-use Rattle.geo_check.specs.Grids.{are_for, largest, magnitudes_in, own_magnitudes, points_in}
+use Rattle.geo_check.specs.Degrees.{are_apart, are_right, is_among}
+use Rattle.geo_check.specs.Grids.{are_for, largest, magnitudes_in, points_in}
 use Rattle.geo_check.specs.Instances.{assigned, nothing_set, on_triangle}
 use Rattle.geo_check.specs.Positions.{IsModest, IsModestEntry, IsPosition, IsWalkable}
 use Rattle.geo_check.proofs.EnoughLaws.{enough, named_in_elements, right_apart}
@@ -40,7 +40,7 @@ assigned_set values p x l = λ i r. there r i
         (λ t. ap (assigned (set values p x)) (eqb-true r p t) ∙ get_or-set_same values p x (pos 0) l)
         (λ t. get_or-set_other values p r x (pos 0) (eqb-false r p t))
 
-pub position_set : (gs : List Grid) (values : List ℤ) (p : ℕ) (x : ℤ) → IsPosition gs values → p < 2 * number_limit → unsigned_abs x ≤ magnitude_of (magnitudes_in gs) p → IsPosition gs (set values p x)
+pub position_set : (gs : List Grid) (values : List ℤ) (p : ℕ) (x : ℤ) → IsPosition gs values → p < 2 * NUMBER_LIMIT → unsigned_abs x ≤ magnitude_of (magnitudes_in gs) p → IsPosition gs (set values p x)
 position_set gs values p x h l m = record {
   room = length-set values p x ∙ h.room;
   within = λ r. subst (λ z. unsigned_abs z ≤ magnitude_of (magnitudes_in gs) r) (sym (ap (λ f. f r) (assigned_set values p x (omega (arith, h.room, l))))) (cond_both (r == p) x (assigned values r) (λ z. unsigned_abs z ≤ magnitude_of (magnitudes_in gs) r) (λ t. subst (λ (q : ℕ). unsigned_abs x ≤ magnitude_of (magnitudes_in gs) q) (sym (eqb-true r p t)) m) (λ t. h.within r));
@@ -58,7 +58,7 @@ bound_taken bound (x ∷ xs) zero h = tt
 bound_taken bound (x ∷ xs) (suc count) h = (h.0, bound_taken bound xs count h.1)
 
 -- a height at a position is within the limit
-pub position_low : (drawing : Drawing) → IsDrawn drawing → (s : Statement) (gs : List Grid) (values : List ℤ) → IsWalkable drawing.elements s gs → IsPosition gs values → statement_height drawing.elements s (magnitudes (assigned values)) ≤ statement_limit
+pub position_low : (drawing : Drawing) → IsDrawn drawing → (s : Statement) (gs : List Grid) (values : List ℤ) → IsWalkable drawing.elements s gs → IsPosition gs values → statement_height drawing.elements s (magnitudes (assigned values)) ≤ STATEMENT_LIMIT
 position_low drawing drawn s gs values walk at =
     le_trans (statement_height_grows drawing.elements (constructed drawing drawn) (magnitudes (assigned values)) (magnitude_of (magnitudes_in gs)) at.within s) walk.low
 
@@ -71,10 +71,10 @@ blank_assigned count = λ i r. there count r i
     there (suc count) zero = refl
     there (suc count) (suc r) = there count r
 
-pub blank_position : (gs : List Grid) (values : List ℤ) → values ≡ replicate (2 * number_limit) (pos 0) → IsPosition gs values
+pub blank_position : (gs : List Grid) (values : List ℤ) → values ≡ replicate (2 * NUMBER_LIMIT) (pos 0) → IsPosition gs values
 blank_position gs values same = record {
-  room = ap (λ vs. length vs) same ∙ length-replicate (2 * number_limit) (pos 0);
-  within = λ p. subst (λ f. unsigned_abs (f p) ≤ magnitude_of (magnitudes_in gs) p) (sym (ap assigned same ∙ blank_assigned (2 * number_limit))) (omega arith);
+  room = ap (λ vs. length vs) same ∙ length-replicate (2 * NUMBER_LIMIT) (pos 0);
+  within = λ p. subst (λ f. unsigned_abs (f p) ≤ magnitude_of (magnitudes_in gs) p) (sym (ap assigned same ∙ blank_assigned (2 * NUMBER_LIMIT))) (omega arith);
 }
 
 -- ---- tests over the rest of a list
@@ -143,7 +143,7 @@ entries_same m n (two p r xs ys ∷ gs) same h = (
 )
 
 -- a list of values for each parameter that a sketch may have, where no parameter stands twice
-pub modest_entries : (es : List Element) (s : Statement) (gs : List Grid) → are_apart (parameters_on gs) ≡ true → AllByRecursion (HasEnough es s) gs → ((p : ℕ) → is_among (parameters_on gs) p ≡ true → p < 2 * number_limit) → AllByRecursion (IsModestEntry (magnitude_of (magnitudes_in gs))) gs
+pub modest_entries : (es : List Element) (s : Statement) (gs : List Grid) → are_apart (parameters_on gs) ≡ true → AllByRecursion (HasEnough es s) gs → ((p : ℕ) → is_among (parameters_on gs) p ≡ true → p < 2 * NUMBER_LIMIT) → AllByRecursion (IsModestEntry (magnitude_of (magnitudes_in gs))) gs
 modest_entries es s [] apart h low = tt
 modest_entries es s (one p xs ∷ gs) apart h low =
     let other = not_true _ (and_parts _ _ apart).0 in
@@ -172,22 +172,22 @@ modest_entries es s (two p r xs ys ∷ gs) apart h low =
     )
 
 -- ---- parameters
-own_low : (n : ℕ) (d : Def) (p : ℕ) → n < number_limit → is_among (own_parameters n d) p ≡ true → p < 2 * number_limit
+own_low : (n : ℕ) (d : Def) (p : ℕ) → n < NUMBER_LIMIT → is_among (own_parameters n d) p ≡ true → p < 2 * NUMBER_LIMIT
 own_low n Free p l t = two_low (2 * n == p) (2 * n + 1 == p) refl refl t
   where
-    two_low : (a b : Bool) → (2 * n == p) ≡ a → (2 * n + 1 == p) ≡ b → (a || (b || false)) ≡ true → p < 2 * number_limit
+    two_low : (a b : Bool) → (2 * n == p) ≡ a → (2 * n + 1 == p) ≡ b → (a || (b || false)) ≡ true → p < 2 * NUMBER_LIMIT
     two_low true b e f u = omega (arith, l, eqb-true (2 * n) p e)
     two_low false true e f u = omega (arith, l, eqb-true (2 * n + 1) p f)
     two_low false false e f u = cc
 own_low n (Fixed a b c) p l t = cc
 own_low n (Cut k) p l t = one_low (2 * n == p) refl t
   where
-    one_low : (a : Bool) → (2 * n == p) ≡ a → (a || false) ≡ true → p < 2 * number_limit
+    one_low : (a : Bool) → (2 * n == p) ≡ a → (a || false) ≡ true → p < 2 * NUMBER_LIMIT
     one_low true e u = omega (arith, l, eqb-true (2 * n) p e)
     one_low false e u = cc
 own_low n (Blend k m) p l t = one_low (2 * n == p) refl t
   where
-    one_low : (a : Bool) → (2 * n == p) ≡ a → (a || false) ≡ true → p < 2 * number_limit
+    one_low : (a : Bool) → (2 * n == p) ≡ a → (a || false) ≡ true → p < 2 * NUMBER_LIMIT
     one_low true e u = omega (arith, l, eqb-true (2 * n) p e)
     one_low false e u = cc
 own_low n (Cross k m) p l t = cc
@@ -201,13 +201,13 @@ either_list {P} (r ∷ ps) qs p f g t = by_first (r == p) refl (either_list ps q
     by_first true e rest u = f (subst (λ (b : Bool). (b || is_among ps p) ≡ true) (sym e) refl)
     by_first false e rest u = rest u
 
-all_low : (es : List Element) (p : ℕ) → AllByRecursion (λ (e : Element). e.number < number_limit) es → is_among (parameters_of es) p ≡ true → p < 2 * number_limit
+all_low : (es : List Element) (p : ℕ) → AllByRecursion (λ (e : Element). e.number < NUMBER_LIMIT) es → is_among (parameters_of es) p ≡ true → p < 2 * NUMBER_LIMIT
 all_low [] p h t = cc
 all_low (e ∷ es) p h t = either_list (own_parameters e.number e.def) (parameters_of es) p (own_low e.number e.def p h.0) (all_low es p h.1) t
 
-pub parameters_low : (drawing : Drawing) → IsDrawn drawing → (p : ℕ) → is_among (parameters_of drawing.elements) p ≡ true → p < 2 * number_limit
+pub parameters_low : (drawing : Drawing) → IsDrawn drawing → (p : ℕ) → is_among (parameters_of drawing.elements) p ≡ true → p < 2 * NUMBER_LIMIT
 parameters_low drawing drawn p t =
-    all_low drawing.elements p (recursion_from_All (λ (e : Element). e.number < number_limit) drawing.elements (λ i d l. numbers_low drawing drawn _ _ (number_at 0 drawing.elements i d drawn.rising l).0)) t
+    all_low drawing.elements p (recursion_from_All (λ (e : Element). e.number < NUMBER_LIMIT) drawing.elements (λ i d l. numbers_low drawing drawn _ _ (number_at 0 drawing.elements i d drawn.rising l).0)) t
 
 some_point : (m : ℕ) → 1 ≤ m → 1 ≤ m * (m + 1) / 2
 some_point zero l = absurd (omega arith)

@@ -1,11 +1,11 @@
 -- How many points a grid has, counted entry by entry.
-use Rattle.std.proofs.Common.{◌≡◌, ◌∙◌, sym, ap, subst, refl, ℕ, zero, suc, ◌+◌, ◌*◌, ◌<◌, ◌≤◌, Bool, true, false, List, [], ◌∷◌, length, drop, le_trans, arith, mul-le-mul}
+use Rattle.std.proofs.Common.{◌≡◌, ◌∙◌, sym, ap, subst, ℕ, zero, suc, ◌+◌, ◌*◌, ◌<◌, ◌≤◌, false, List, [], ◌∷◌, drop, arith, mul-le-mul}
 use Rattle.std.specs.Prelude.{not, nat_lt}
 use Rattle.std.specs.List.{AllByRecursion}
 use Rattle.std.proofs.lemmas.Bool.{lt-ltb}
 use Rattle.geo_cert.specs.Grids.{Grid}
-use Rattle.geo_degree.specs.Questions.{size_limit}
 use Rattle.geo_check.specs.Grids.{points_in, size_of}
+use Rattle.geo_degree.specs.declared.limits.TheConstants.{SIZE_LIMIT}
 
 pub all_dropped : {X : Type 0} (P : X → Type 0) (xs : List X) (k : ℕ) → AllByRecursion P xs → AllByRecursion P (drop k xs)
 all_dropped P [] zero h = tt
@@ -34,14 +34,14 @@ module _ (gs : List Grid) (points : AllByRecursion (λ (g : Grid). 1 ≤ points_
   grown_some = omega (arith, mul-le-mul some have.0)
 
   -- an entry alone has too many points
-  pub too_large : size_limit < points_in g → not (nat_lt size_limit (size_of gs)) ≡ false
+  pub too_large : SIZE_LIMIT < points_in g → not (nat_lt SIZE_LIMIT (size_of gs)) ≡ false
   too_large l =
       let least : 1 * points_in g ≤ size * points_in g = mul-le-mul some (omega arith) in
       let more : size * points_in g * 1 ≤ size * points_in g * size_of (drop (k + 1) gs) = mul-le-mul (omega arith) (some_points (drop (k + 1) gs) have.1) in
-      ap not (lt-ltb size_limit (size_of gs) (omega (arith, l, least, more, grown)))
+      ap not (lt-ltb SIZE_LIMIT (size_of gs) (omega (arith, l, least, more, grown)))
 
   -- it and those before it have
-  pub too_many : size_limit < size * points_in g → not (nat_lt size_limit (size_of gs)) ≡ false
+  pub too_many : SIZE_LIMIT < size * points_in g → not (nat_lt SIZE_LIMIT (size_of gs)) ≡ false
   too_many l =
       let more : size * points_in g * 1 ≤ size * points_in g * size_of (drop (k + 1) gs) = mul-le-mul (omega arith) (some_points (drop (k + 1) gs) have.1) in
-      ap not (lt-ltb size_limit (size_of gs) (omega (arith, l, more, grown)))
+      ap not (lt-ltb SIZE_LIMIT (size_of gs) (omega (arith, l, more, grown)))

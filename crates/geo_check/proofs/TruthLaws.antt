@@ -1,5 +1,5 @@
 -- A certificate that is not refused is true.
-use Rattle.std.proofs.Common.{◌≡◌, ◌∙◌, sym, ap, subst, refl, ℕ, ◌<◌, Bool, true, false, if◌then◌else◌, Option, None, Some, List, [], ◌∷◌, map, ℤ, pos}
+use Rattle.std.proofs.Common.{◌≡◌, sym, subst, refl, ℕ, Bool, true, false, if◌then◌else◌, Option, None, Some, List, ℤ, pos}
 use Rattle.std.specs.Prelude.{◌&&◌, not, nat_lt}
 use Rattle.std.proofs.lemmas.Bool.{and_parts, cond_both}
 use Rattle.geo_sketch.specs.declared.elements.Def.{Def}
@@ -10,31 +10,30 @@ use Rattle.geo_sketch.specs.Assignments.{assignment_of}
 use Rattle.geo_sketch.specs.Constructions.{IsConstruction}
 use Rattle.geo_sketch.specs.Heights.{statement_height}
 use Rattle.geo_sketch.specs.Posing.{is_posed}
-use Rattle.geo_sketch.specs.Rebuilding.{at_zero, is_sound, listed, rebuilt}
+use Rattle.geo_sketch.specs.Rebuilding.{at_zero, is_sound, rebuilt}
 use Rattle.geo_sketch.specs.Sketches.{Drawing, IsDrawn}
-use Rattle.geo_sketch.specs.Statements.{parts_at, AreZero, Holds}
+use Rattle.geo_sketch.specs.Statements.{parts_at, Holds}
+use Rattle.geo_triple.specs.Zero.{AreZero, are_zero}
 use Rattle.geo_sketch.proofs.PosingLaws.{decides_posed}
 use Rattle.geo_sketch.proofs.SketchLaws.{constructed}
 use Rattle.geo_height.specs.Bounds.{magnitude_of}
-use Rattle.geo_height.specs.Capped.{statement_limit}
-use Rattle.geo_degree.specs.Degrees.{statement_degree}
+use Rattle.geo_triple.specs.declared.limits.TheConstants.{STATEMENT_LIMIT}
 use Rattle.geo_degree.specs.Grids.{parameters_of}
-use Rattle.geo_degree.specs.Questions.{size_limit}
-use Rattle.geo_degree.specs.VerdictFunction.{are_zero}
 use Rattle.geo_degree.proofs.AgreementLaws.{parts_agree}
 use Rattle.geo_cert.specs.declared.certificates.Certificate.{Certificate}
 use Rattle.geo_cert.specs.declared.certificates.Finding.{Finding}
 use Rattle.geo_cert.specs.declared.certificates.Finding.TheVariants as finding
 use Rattle.geo_cert.specs.declared.degree_lists.DegreeEntry.{DegreeEntry}
 use Rattle.geo_cert.specs.Grids.{Grid}
-use Rattle.geo_check.specs.Degrees.{are_right, is_among, named_by}
-use Rattle.geo_check.specs.Faults.{elements_in, false_fault, finding_fault, first_fault, grid_fault, points_fault, proved_fault, unless, values_fault}
+use Rattle.geo_check.specs.Degrees.{are_right, is_among}
+use Rattle.geo_check.specs.Faults.{elements_in, finding_fault, first_fault, grid_fault, unless, values_fault}
 use Rattle.geo_check.specs.Grids.{are_for, are_values_for, magnitudes_in, size_of, sizes_of_values}
 use Rattle.geo_check.specs.Instances.{is_zero_on, nothing_set}
 use Rattle.geo_check.specs.Truth.{IsTrueCertificate, IsTrueFinding}
 use Rattle.geo_check.proofs.EnoughLaws.{all_named, enough}
 use Rattle.geo_check.proofs.ListLaws.{decides_zero}
 use Rattle.geo_check.proofs.ZeroLaws.{parameters_on, zero_on_all}
+use Rattle.geo_degree.specs.declared.limits.TheConstants.{SIZE_LIMIT}
 
 -- nothing is refused where the test passes, and nothing behind it
 passed : (b : Bool) (n : ℕ) (later : Option ℕ) → unless b n later ≡ None → (b ≡ true) × (later ≡ None)
@@ -67,13 +66,13 @@ module _ (es : List Element) (c : IsConstruction es) (s : Statement) where
   finding_true (finding.Proved degrees grid) t =
       let right = passed (are_right es s degrees) 4 (grid_fault es s degrees grid) t in
       let for = passed (are_for degrees grid) 5 _ right.1 in
-      let small = passed (not (nat_lt size_limit (size_of grid))) 6 _ for.1 in
-      let low = passed (not (nat_lt statement_limit (statement_height es s (magnitude_of (magnitudes_in grid))))) 7 _ small.1 in
+      let small = passed (not (nat_lt SIZE_LIMIT (size_of grid))) 6 _ for.1 in
+      let low = passed (not (nat_lt STATEMENT_LIMIT (statement_height es s (magnitude_of (magnitudes_in grid))))) 7 _ small.1 in
       let zero = passed (is_zero_on es s grid nothing_set) 8 _ low.1 in
       proved_holds degrees grid right.0 for.0 zero.0
   finding_true (finding.False values) t =
       let for = passed (are_values_for (parameters_of es) values) 5 (values_fault es s values) t in
-      let low = passed (not (nat_lt statement_limit (statement_height es s (magnitude_of (sizes_of_values values))))) 7 _ for.1 in
+      let low = passed (not (nat_lt STATEMENT_LIMIT (statement_height es s (magnitude_of (sizes_of_values values))))) 7 _ for.1 in
       let zero = passed (not (are_zero (parts_at es s (assignment_of values)))) 8 _ low.1 in
       λ h. not_false (are_zero (parts_at es s (assignment_of values))) zero.0 ((decides_zero (parts_at es s (assignment_of values))).1 h)
 

@@ -1,20 +1,23 @@
 -- The values at which a claim is said to be false.
-use Rattle.std.proofs.Common.{◌≡◌, ◌∙◌, sym, ap, subst, refl, inl, inr, ℕ, zero, suc, ◌+◌, ◌*◌, ◌<◌, ◌≤◌, ◌==◌, Bool, true, false, if◌then◌else◌, Option, None, Some, List, [], ◌∷◌, ◌++◌, length, get_or, set, drop, map, All, ℤ, pos, unsigned_abs, arith, add-one, drop-cons, append_assoc}
-use Rattle.std.specs.Prelude.{◌&&◌, slice_get, is_none}
-use Rattle.std.proofs.lemmas.Bool.{and_parts, cond_both, eqb-true, eqb-false, ne_eqb, cases_eq, cases_lt}
+use Rattle.std.proofs.Common.{◌≡◌, ◌∙◌, sym, ap, subst, refl, inl, inr, ℕ, suc, ◌+◌, ◌*◌, ◌<◌, ◌≤◌, ◌==◌, Bool, true, false, if◌then◌else◌, Option, None, Some, List, [], ◌∷◌, ◌++◌, length, get_or, set, drop, All, ℤ, pos, unsigned_abs, arith, add-one, drop-cons, append_assoc}
+use Rattle.std.specs.Prelude.{◌&&◌, slice_get, is_none, nat_le, ◌-◌}
+use Rattle.std.proofs.lemmas.Bool.{and_parts, eqb-true, eqb-false, cases_lt}
+use Rattle.std.proofs.lemmas.Bool.Decides.{nat_tests}
+use Rattle.std.proofs.lemmas.List.{length-drop}
 use Rattle.std.proofs.lemmas.List.Elements.{All-cons}
-use Rattle.std.proofs.lemmas.Option.{slice_get-get_or, slice_get_past, slice_get_within, get_or_from_slice_get}
+use Rattle.std.proofs.lemmas.Option.{slice_get-get_or, slice_get_within, get_or_from_slice_get}
 use Rattle.geo_sketch.specs.Assignments.{assignment_of}
-use Rattle.geo_sketch.specs.Sketches.{number_limit, Drawing, IsDrawn}
+use Rattle.geo_sketch.specs.Sketches.{Drawing, IsDrawn}
+use Rattle.geo_sketch.specs.declared.limits.TheConstants.{NUMBER_LIMIT}
 use Rattle.geo_height.specs.Bounds.{magnitude_of, IsWithin}
 use Rattle.geo_degree.specs.Grids.{parameters_of}
 use Rattle.geo_degree.specs.Polynomials.{with_value}
 use Rattle.geo_check.specs.Degrees.{is_among}
 use Rattle.geo_cert.specs.declared.degree_lists.DegreeEntry.{DegreeEntry}
 use Rattle.geo_cert.specs.declared.degree_lists.DegreeEntry.TheVariants.{One}
-use Rattle.geo_cert.specs.Grids.{Grid}
+use Rattle.geo_cert.specs.Grids.{Grid, one}
 use Rattle.geo_check.specs.Grids.{are_for, are_values_for, sizes_of_values}
-use Rattle.geo_check.specs.Instances.{assigned, nothing_set}
+use Rattle.geo_check.specs.Instances.{assigned}
 use Rattle.geo_check.proofs.EntryLaws.{no_more}
 use Rattle.geo_check.proofs.PositionLaws.{assigned_set, first_in, later_in, parameters_low}
 
@@ -85,7 +88,7 @@ values_among (p ∷ ps) (v ∷ vs) all t h =
     let same : v.0 ≡ p = eqb-true v.0 p (and_parts _ _ t).0 in
     All-cons (λ (w : ℕ × ℤ). is_among all w.0 ≡ true) v vs (subst (λ (q : ℕ). is_among all q ≡ true) (sym same) (h p (first_in p ps))) (values_among ps vs all (and_parts _ _ t).1 (λ q u. h q (later_in p q ps u)))
 
-pub values_low : (drawing : Drawing) → IsDrawn drawing → (vs : List (ℕ × ℤ)) → are_values_for (parameters_of drawing.elements) vs ≡ true → All (λ (v : ℕ × ℤ). v.0 < 2 * number_limit) vs
+pub values_low : (drawing : Drawing) → IsDrawn drawing → (vs : List (ℕ × ℤ)) → are_values_for (parameters_of drawing.elements) vs ≡ true → All (λ (v : ℕ × ℤ). v.0 < 2 * NUMBER_LIMIT) vs
 values_low drawing drawn vs t k d l =
     parameters_low drawing drawn (get_or vs k d).0 (values_among (parameters_of drawing.elements) vs (parameters_of drawing.elements) t (λ p u. u) k d l)
 
@@ -95,8 +98,17 @@ entries_gone ds gs k l h =
     let d = One 0 (pos 0) in
     ap (λ es. are_for es (drop k gs)) (drop-cons ds k d l) ∙ ap (are_for (get_or ds k d ∷ drop (suc k) ds)) h
 
-pub value_low : (vs : List (ℕ × ℤ)) (k : ℕ) (v : ℕ × ℤ) → All (λ (w : ℕ × ℤ). w.0 < 2 * number_limit) vs → slice_get vs k ≡ Some v → v.0 < 2 * number_limit
-value_low vs k v h e = subst (λ (w : ℕ × ℤ). w.0 < 2 * number_limit) (get_or_from_slice_get vs k v v e) (h k v (slice_get_within vs k v e))
+pub value_low : (vs : List (ℕ × ℤ)) (k : ℕ) (v : ℕ × ℤ) → All (λ (w : ℕ × ℤ). w.0 < 2 * NUMBER_LIMIT) vs → slice_get vs k ≡ Some v → v.0 < 2 * NUMBER_LIMIT
+value_low vs k v h e = subst (λ (w : ℕ × ℤ). w.0 < 2 * NUMBER_LIMIT) (get_or_from_slice_get vs k v v e) (h k v (slice_get_within vs k v e))
 
-pub never_none : {P : Type 0} (vs : List (ℕ × ℤ)) (k : ℕ) → k < length vs → slice_get vs k ≡ None → P
-never_none vs k l h = let there = slice_get-get_or vs k (0, pos 0) l in cc
+-- an end is not before the length
+pub never_gone : {P : Type 0} (gs : List Grid) (k : ℕ) → k < length gs → drop k gs ≡ [] → P
+never_gone gs k l h = let none : length gs - k ≡ 0 = sym (length-drop k gs) ∙ ap length h in absurd (omega (arith, l, none))
+
+-- behind the last degree there are no entries where there are no more of them
+entries_end_by : (gs : List Grid) (k : ℕ) (b : Bool) → nat_le (length gs) k ≡ b → are_for [] (drop k gs) ≡ b
+entries_end_by gs k true h = ap (are_for []) (no_more gs k (grind (arith, nat_tests, h)))
+entries_end_by gs k false h = let within : k < length gs = grind (arith, nat_tests, h) in ap (are_for []) (drop-cons gs k (one 0 []) within)
+
+pub entries_end : (ds : List DegreeEntry) (gs : List Grid) (k : ℕ) → length ds ≤ k → are_for (drop k ds) (drop k gs) ≡ nat_le (length gs) k
+entries_end ds gs k l = ap (λ es. are_for es (drop k gs)) (no_more ds k l) ∙ entries_end_by gs k (nat_le (length gs) k) refl

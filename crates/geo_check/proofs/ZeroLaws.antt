@@ -1,6 +1,6 @@
 -- A statement that is 0 at all points of a grid with enough values is 0 everywhere: one entry after
 -- the other its parameters become free, since a polynomial has no more roots than its degree.
-use Rattle.std.proofs.Common.{◌≡◌, ◌∙◌, sym, ap, subst, refl, ℕ, zero, suc, ◌+◌, ◌*◌, ◌<◌, ◌≤◌, ◌==◌, Bool, true, false, if◌then◌else◌, List, [], ◌∷◌, length, get_or, set, All, Contains, ℤ, pos, arith}
+use Rattle.std.proofs.Common.{◌≡◌, ◌∙◌, sym, ap, subst, refl, ℕ, zero, suc, ◌+◌, ◌<◌, ◌≤◌, ◌==◌, Bool, true, false, if◌then◌else◌, List, [], ◌∷◌, length, get_or, set, All, Contains, ℤ, pos, arith}
 use Rattle.std.specs.List.{AllByRecursion}
 use Rattle.std.proofs.lemmas.Bool.{cond_both, eqb-true, eqb-false}
 use Rattle.std.specs.Prelude.{◌||◌}
@@ -17,7 +17,8 @@ use Rattle.geo_sketch.specs.declared.elements.Element.{Element}
 use Rattle.geo_sketch.specs.declared.statements.Statement.{Statement}
 use Rattle.geo_sketch.specs.Assignments.{first_parameter, second_parameter}
 use Rattle.geo_sketch.specs.Constructions.{IsConstruction}
-use Rattle.geo_sketch.specs.Statements.{AreZero, parts_at}
+use Rattle.geo_sketch.specs.Statements.{parts_at}
+use Rattle.geo_triple.specs.Zero.{AreZero}
 use Rattle.geo_degree.specs.Degrees.{statement_degree}
 use Rattle.geo_degree.specs.PairPolynomials.{part_tables, values_of_tables, with_pair, AreTriangles}
 use Rattle.geo_degree.specs.Polynomials.{part_lists, values_at, with_value, AreShort}

@@ -5,7 +5,7 @@ use Rattle.geo_sketch.specs.declared.elements.Element.{Element}
 use Rattle.geo_sketch.specs.declared.statements.Statement.{Statement}
 use Rattle.geo_sketch.specs.Statements.{parts_at}
 use Rattle.geo_degree.specs.Polynomials.{with_value}
-use Rattle.geo_degree.specs.VerdictFunction.{are_zero}
+use Rattle.geo_triple.specs.Zero.{are_zero}
 use Rattle.geo_cert.specs.Grids.{Grid, one, two}
 
 -- f passes at the points of a triangle: of m and m values those at places i and j with i + j < m,

@@ -1,6 +1,6 @@
 -- What is kept while a statement is evaluated: values by the numbers of the parameters, triples by
 -- the numbers of the elements.
-use Rattle.std.specs.Prelude.{◌≡◌, ℕ, ◌+◌, ◌*◌, ◌<◌, ◌≤◌, Bool, true, ℤ, unsigned_abs, Some, List, [], ◌∷◌, length, map, slice_index_or}
+use Rattle.std.specs.Prelude.{◌≡◌, ℕ, ◌*◌, ◌<◌, ◌≤◌, Bool, true, ℤ, unsigned_abs, Some, List, [], ◌∷◌, length, map, slice_index_or}
 use Rattle.std.specs.List.{AllByRecursion}
 use Rattle.geo_triple.specs.declared.Triple.{Triple}
 use Rattle.geo_triple.specs.Triple.{cross_of, determinant_of, dot_of, zero_triple}
@@ -10,12 +10,13 @@ use Rattle.geo_sketch.specs.declared.statements.Statement.TheVariants as stateme
 use Rattle.geo_sketch.specs.Heights.{statement_height}
 use Rattle.geo_sketch.specs.Lookups.{numbered, IsLive}
 use Rattle.geo_sketch.specs.Needs.{needs, AtStated}
-use Rattle.geo_sketch.specs.Sketches.{number_limit, Drawing, IsDrawn}
-use Rattle.geo_sketch.specs.Statements.{coordinates}
+use Rattle.geo_sketch.specs.Sketches.{Drawing, IsDrawn}
+use Rattle.geo_sketch.specs.declared.limits.TheConstants.{NUMBER_LIMIT}
+use Rattle.geo_triple.specs.Zero.{coordinates}
 use Rattle.geo_sketch.specs.Tables.{place}
 use Rattle.geo_sketch.specs.Triples.{triple_at}
 use Rattle.geo_height.specs.Bounds.{magnitude_of, IsWithin}
-use Rattle.geo_height.specs.Capped.{statement_limit}
+use Rattle.geo_triple.specs.declared.limits.TheConstants.{STATEMENT_LIMIT}
 use Rattle.geo_cert.specs.Grids.{Grid, one, two}
 use Rattle.geo_check.specs.Grids.{magnitudes_in}
 use Rattle.geo_check.specs.Instances.{assigned}
@@ -43,7 +44,7 @@ parts_of (statement.Triple n m k) triples = determinant_of (triples n) (triples 
 -- ---- on a grid
 -- a parameter that a sketch may have, whose values are within its magnitude
 pub record IsModest (m : ℕ → ℕ) (p : ℕ) (xs : List ℤ) : Type 0 where
-  pub parameter : p < 2 * number_limit
+  pub parameter : p < 2 * NUMBER_LIMIT
   pub values : AllByRecursion (λ x. unsigned_abs x ≤ m p) xs
 
 abbrev pub IsModestEntry : (ℕ → ℕ) → Grid → Type 0
@@ -53,9 +54,9 @@ IsModestEntry m (two p q xs ys) = IsModest m p xs × IsModest m q ys × (length 
 -- at all points of the grid the height of the statement is within the limit
 pub record IsWalkable (es : List Element) (s : Statement) (gs : List Grid) : Type 0 where
   pub entries : AllByRecursion (IsModestEntry (magnitude_of (magnitudes_in gs))) gs
-  pub low : statement_height es s (magnitude_of (magnitudes_in gs)) ≤ statement_limit
+  pub low : statement_height es s (magnitude_of (magnitudes_in gs)) ≤ STATEMENT_LIMIT
 
 -- so it is at these values
 pub record IsPosition (gs : List Grid) (values : List ℤ) : Type 0 where
-  pub room : length values ≡ 2 * number_limit
+  pub room : length values ≡ 2 * NUMBER_LIMIT
   pub within : IsWithin (assigned values) (magnitude_of (magnitudes_in gs))

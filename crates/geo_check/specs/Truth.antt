@@ -5,7 +5,8 @@ use Rattle.geo_sketch.specs.declared.statements.Statement.{Statement}
 use Rattle.geo_sketch.specs.Assignments.{assignment_of}
 use Rattle.geo_sketch.specs.Rebuilding.{at_zero, rebuilt}
 use Rattle.geo_sketch.specs.Sketches.{IsDrawn, IsPosed}
-use Rattle.geo_sketch.specs.Statements.{parts_at, AreZero, Holds}
+use Rattle.geo_sketch.specs.Statements.{parts_at, Holds}
+use Rattle.geo_triple.specs.Zero.{AreZero}
 use Rattle.geo_cert.specs.declared.certificates.CertStop.{CertStop}
 use Rattle.geo_cert.specs.declared.certificates.Certificate.{Certificate}
 use Rattle.geo_cert.specs.declared.certificates.Finding.{Finding}

@@ -2,8 +2,10 @@
 
 ghost use Rattle.std.specs.Prelude.{◌≡◌, ◌<◌, ◌++◌, IfOk, OnOk, length, true};
 ghost use Rattle.std.specs.List.{AllByRecursion};
-ghost use Rattle.geo_sketch.specs.Sketches.{number_limit, IsDrawn, IsPosed};
-ghost use Rattle.geo_degree.specs.Grids.{own_parameters, parameters_of};
+ghost use Rattle.geo_sketch.specs.Sketches.{IsDrawn, IsPosed};
+ghost use Rattle.geo_sketch.specs.declared.limits.TheConstants.{NUMBER_LIMIT};
+ghost use Rattle.geo_degree.specs.Grids.{parameters_of};
+ghost use Rattle.geo_sketch.specs.Assignments.{own_parameters};
 ghost use Rattle.geo_height.specs.Bounds.{magnitude_of};
 ghost use Rattle.geo_check.specs.Degrees.{are_right};
 ghost use Rattle.geo_check.specs.Faults.{IsAnswer, checked_of, finding_fault, grid_fault, points_fault, values_fault};
@@ -188,7 +190,7 @@ fn find_values_fault(
 
 /// A triple for each element that a sketch may have.
 fn blank_triples(alloc: Global) -> Result<Vec<Triple>, NoMemory>
-    ensures { IfOk result (λ triples. length triples.items ≡ number_limit) }
+    ensures { IfOk result (λ triples. length triples.items ≡ NUMBER_LIMIT) }
 {
     let zero = Triple { a: 0, b: 0, c: 0 };
     match vec![in alloc; zero; NUMBER_LIMIT] {
@@ -210,7 +212,7 @@ fn list_parameters(alloc: Global, sketch: &Sketch) -> Result<Vec<u32>, NoMemory>
 }
 
 fn add_parameters(element: &Element, parameters: &mut Vec<u32>) -> Result<(), NoMemory>
-    requires { element.now.number < number_limit }
+    requires { element.now.number < NUMBER_LIMIT }
     ensures { OnOk result (parameters.new.items ≡ parameters.old.items ++ own_parameters element.now.number element.now.def) }
 {
     let first = first_parameter(element.number) as u32;

@@ -1,4 +1,5 @@
-//! A statement at one assignment of values to all parameters.
+//! A statement at one assignment of values to all parameters. The checker evaluates on its own,
+//! apart from the search on purpose: what it finds does not rest on that.
 
 ghost use Rattle.std.specs.Prelude.{◌≡◌, ◌<◌, ◌≤◌, ◌*◌, IfOk, OnOk, length, true, map, slice_index_or};
 ghost use Rattle.geo_triple.specs.Sums.{largest_of};
@@ -9,12 +10,13 @@ ghost use Rattle.geo_sketch.specs.Constructions.{AtNamed, by_def};
 ghost use Rattle.geo_sketch.specs.Heights.{statement_height};
 ghost use Rattle.geo_sketch.specs.Lookups.{IsLive};
 ghost use Rattle.geo_sketch.specs.Needs.{needs, AtStated};
-ghost use Rattle.geo_sketch.specs.Sketches.{number_limit, IsDrawn};
-ghost use Rattle.geo_sketch.specs.Statements.{coordinates, parts_at};
+ghost use Rattle.geo_sketch.specs.Sketches.{IsDrawn};
+ghost use Rattle.geo_sketch.specs.declared.limits.TheConstants.{NUMBER_LIMIT};
+ghost use Rattle.geo_sketch.specs.Statements.{parts_at};
+ghost use Rattle.geo_triple.specs.Zero.{coordinates, are_zero};
 ghost use Rattle.geo_sketch.specs.Triples.{triple_algebra};
 ghost use Rattle.geo_height.specs.Bounds.{statement_sum, sums_by};
-ghost use Rattle.geo_height.specs.Capped.{statement_limit};
-ghost use Rattle.geo_degree.specs.VerdictFunction.{are_zero};
+ghost use Rattle.geo_triple.specs.declared.limits.TheConstants.{STATEMENT_LIMIT};
 ghost use Rattle.geo_check.specs.Instances.{assigned};
 ghost use Rattle.geo_check.specs.Positions.{AreKnown, IsReady, parts_of, triple_of};
 
@@ -70,9 +72,9 @@ fn is_needed(sketch: &Sketch, statement: &Statement, n: u32) -> bool
 /// does not need.
 pub(crate) fn is_zero_at(claim: &Claim, values: &[i64], triples: &mut [Triple]) -> bool
     requires ready { IsReady claim.now.sketch.now claim.now.statement.now claim.now.needed.now }
-    requires values_room { length values.now ≡ 2 * number_limit }
-    requires triples_room { length triples.old ≡ number_limit }
-    requires low { statement_height claim.now.sketch.now.elements claim.now.statement.now (magnitudes (assigned values.now)) ≤ statement_limit }
+    requires values_room { length values.now ≡ 2 * NUMBER_LIMIT }
+    requires triples_room { length triples.old ≡ NUMBER_LIMIT }
+    requires low { statement_height claim.now.sketch.now.elements claim.now.statement.now (magnitudes (assigned values.now)) ≤ STATEMENT_LIMIT }
     ensures { result ≡ are_zero (parts_at claim.now.sketch.now.elements claim.now.statement.now (assigned values.now)) }
 {
     evaluate(claim, values, triples);
@@ -82,9 +84,9 @@ pub(crate) fn is_zero_at(claim: &Claim, values: &[i64], triples: &mut [Triple]) 
 /// The triples of the elements that the claim needs, each at its number.
 fn evaluate(claim: &Claim, values: &[i64], triples: &mut [Triple])
     requires ready { IsReady claim.now.sketch.now claim.now.statement.now claim.now.needed.now }
-    requires values_room { length values.now ≡ 2 * number_limit }
-    requires triples_room { length triples.old ≡ number_limit }
-    requires low { statement_height claim.now.sketch.now.elements claim.now.statement.now (magnitudes (assigned values.now)) ≤ statement_limit }
+    requires values_room { length values.now ≡ 2 * NUMBER_LIMIT }
+    requires triples_room { length triples.old ≡ NUMBER_LIMIT }
+    requires low { statement_height claim.now.sketch.now.elements claim.now.statement.now (magnitudes (assigned values.now)) ≤ STATEMENT_LIMIT }
     ensures { AreKnown claim.now.sketch.now.elements claim.now.statement.now (assigned values.now) triples.new (length claim.now.sketch.now.elements) }
 {
     let elements = claim.sketch.elements();
@@ -98,11 +100,11 @@ fn evaluate(claim: &Claim, values: &[i64], triples: &mut [Triple])
 
 /// The triple of an element, from those of earlier ones.
 fn triple_of(element: &Element, values: &[i64], triples: &[Triple]) -> Triple
-    requires number { element.now.number < number_limit }
-    requires named { AtNamed element.now.def (λ k. k < number_limit) }
-    requires values_room { length values.now ≡ 2 * number_limit }
-    requires triples_room { length triples.now ≡ number_limit }
-    requires low { largest_of (sums_by (assigned values.now) element.now.number element.now.def (triple_of triples.now)) ≤ statement_limit }
+    requires number { element.now.number < NUMBER_LIMIT }
+    requires named { AtNamed element.now.def (λ k. k < NUMBER_LIMIT) }
+    requires values_room { length values.now ≡ 2 * NUMBER_LIMIT }
+    requires triples_room { length triples.now ≡ NUMBER_LIMIT }
+    requires low { largest_of (sums_by (assigned values.now) element.now.number element.now.def (triple_of triples.now)) ≤ STATEMENT_LIMIT }
     ensures { result ≡ by_def (triple_algebra (assigned values.now)) element.now.number element.now.def (triple_of triples.now) }
 {
     let first = first_parameter(element.number) as usize;
@@ -127,7 +129,7 @@ fn triple_of(element: &Element, values: &[i64], triples: &[Triple]) -> Triple
 /// Whether all parts of a statement about these triples are 0.
 fn are_parts_zero(statement: &Statement, triples: &[Triple]) -> bool
     requires room { AtStated statement.now (λ n. n < length triples.now) }
-    requires low { statement_sum statement.now (triple_of triples.now) ≤ statement_limit }
+    requires low { statement_sum statement.now (triple_of triples.now) ≤ STATEMENT_LIMIT }
     ensures { result ≡ are_zero (parts_of statement.now (triple_of triples.now)) }
 {
     match statement {

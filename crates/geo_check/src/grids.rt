@@ -4,17 +4,15 @@
 ghost use Rattle.std.specs.Prelude.{◌≡◌, ◌<◌, ◌≤◌, ◌^◌, ◌++◌, ◌∷◌, [], nat_lt, not, IfOk, OnOk, MatchOption};
 ghost use Rattle.std.specs.List.{AllByRecursion};
 ghost use Rattle.geo_cert.specs.Grids.{Grid};
-ghost use Rattle.geo_degree.specs.Questions.{size_limit};
 ghost use Rattle.geo_check.specs.Entries.{entry_shown};
 ghost use Rattle.geo_check.specs.Grids.{are_different, are_enough, are_for, are_more, has_value, is_for, largest, magnitudes_in, own_magnitudes, points_in, size_of};
+ghost use Rattle.geo_degree.specs.declared.limits.TheConstants.{SIZE_LIMIT};
 
 use crate::entries::{Entry, entry_at};
 use geo_cert::{DegreeEntry, GridList};
+use geo_degree::SIZE_LIMIT;
 use geo_sketch::NoMemory;
 use std::alloc::Global;
-
-/// The greatest number of points.
-const SIZE_LIMIT: u64 = 1 << 20;
 
 /// The entries are for these degrees, in their order.
 pub(crate) fn are_for(degrees: &[DegreeEntry], grid: &GridList) -> bool
@@ -30,7 +28,7 @@ pub(crate) fn are_for(degrees: &[DegreeEntry], grid: &GridList) -> bool
             None => return false,
         }
     }
-    entry_at(grid, degrees.len()).is_none()
+    grid.len() <= degrees.len()
 }
 
 fn is_for(degree: &DegreeEntry, entry: &Entry) -> bool
@@ -89,12 +87,12 @@ fn are_more(values: &[i64], degree: i64) -> bool
 /// There are at most 2^20 points.
 pub(crate) fn is_small(grid: &GridList) -> bool
     requires { AllByRecursion (λ (g : Grid). 1 ≤ points_in g) grid.now }
-    ensures { result ≡ not (nat_lt size_limit (size_of grid.now)) }
+    ensures { result ≡ not (nat_lt SIZE_LIMIT (size_of grid.now)) }
 {
     let mut size: u64 = 1;
     for k in 0..grid.len() {
         let Some(entry) = entry_at(grid, k) else {
-            return true;
+            return false;
         };
         let Some(count) = count_points(&entry) else {
             return false;
@@ -109,7 +107,7 @@ pub(crate) fn is_small(grid: &GridList) -> bool
 
 /// How many points an entry has, where they are not too many.
 fn count_points(entry: &Entry) -> Option<u64>
-    ensures { MatchOption result (size_limit < points_in (entry_shown entry.now)) (λ n. (n ≡ points_in (entry_shown entry.now)) × (n ≤ 2 ^ 40)) }
+    ensures { MatchOption result (SIZE_LIMIT < points_in (entry_shown entry.now)) (λ n. (n ≡ points_in (entry_shown entry.now)) × (n ≤ 2 ^ 40)) }
 {
     match entry {
         Entry::One(_, values) => count_below(values.len()),
@@ -122,7 +120,7 @@ fn count_points(entry: &Entry) -> Option<u64>
 
 /// The number, where it is at most the limit.
 fn count_below(m: usize) -> Option<u64>
-    ensures { MatchOption result (size_limit < m) (λ n. (n ≡ m) × (n ≤ size_limit)) }
+    ensures { MatchOption result (SIZE_LIMIT < m) (λ n. (n ≡ m) × (n ≤ SIZE_LIMIT)) }
 {
     let count = m as u64;
     if count > SIZE_LIMIT {
@@ -138,7 +136,7 @@ pub(crate) fn list_magnitudes(alloc: Global, grid: &GridList) -> Result<Vec<(u32
     let mut magnitudes = Vec::new(alloc);
     for k in 0..grid.len() {
         let Some(entry) = entry_at(grid, k) else {
-            return Ok(magnitudes);
+            return Err(NoMemory);
         };
         add_magnitudes(&entry, &mut magnitudes)?;
     }

@@ -1,4 +1,5 @@
-//! Whether a claim is a statement about the elements that are listed.
+//! Whether a claim is a statement about the elements that are listed. The checker tests this on
+//! its own, apart from the search on purpose.
 
 ghost use Rattle.std.specs.Prelude.{◌≡◌};
 ghost use Rattle.geo_sketch.specs.Lookups.{kind_at};

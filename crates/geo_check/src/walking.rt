@@ -2,7 +2,7 @@
 
 ghost use Rattle.std.specs.Prelude.{◌≡◌, ◌<◌, ◌≤◌, ◌*◌, length, true, drop, take, pos, slice_index_or, slice_set};
 ghost use Rattle.std.specs.List.{list_all};
-ghost use Rattle.geo_sketch.specs.Sketches.{number_limit};
+ghost use Rattle.geo_sketch.specs.declared.limits.TheConstants.{NUMBER_LIMIT};
 ghost use Rattle.geo_degree.specs.Polynomials.{with_value};
 ghost use Rattle.geo_height.specs.Bounds.{magnitude_of};
 ghost use Rattle.geo_check.specs.Grids.{magnitudes_in};
@@ -28,12 +28,15 @@ pub(crate) fn is_zero_from(
     requires ready { IsReady claim.now.sketch.now claim.now.statement.now claim.now.needed.now }
     requires walkable { IsWalkable claim.now.sketch.now.elements claim.now.statement.now grid.now }
     requires position { IsPosition grid.now values.old }
-    requires triples_room { length triples.old ≡ number_limit }
+    requires triples_room { length triples.old ≡ NUMBER_LIMIT }
     ensures zero { result ≡ is_zero_on claim.now.sketch.now.elements claim.now.statement.now (drop k grid.now) (assigned values.old) }
     ensures same { result ≡ true → values.new ≡ values.old }
 {
+    if k >= grid.len() {
+        return is_zero_at(claim, values, triples);
+    }
     match entry_at(grid, k) {
-        None => is_zero_at(claim, values, triples),
+        None => false,
         Some(Entry::One(p, list)) => is_zero_along(claim, grid, k + 1, p, list, values, triples),
         Some(Entry::Pair(p, q, first, second)) => {
             is_zero_on_triangle(claim, grid, k + 1, (p, q), first, second, values, triples)
@@ -56,7 +59,7 @@ fn is_zero_along(
     requires walkable { IsWalkable claim.now.sketch.now.elements claim.now.statement.now grid.now }
     requires modest { IsModest (magnitude_of (magnitudes_in grid.now)) p list.now }
     requires position { IsPosition grid.now values.old }
-    requires triples_room { length triples.old ≡ number_limit }
+    requires triples_room { length triples.old ≡ NUMBER_LIMIT }
     ensures zero { result ≡ list_all (λ x. is_zero_on claim.now.sketch.now.elements claim.now.statement.now (drop k grid.now) (with_value (assigned values.old) p x)) list.now }
     ensures same { result ≡ true → values.new ≡ values.old }
 {
@@ -91,7 +94,7 @@ fn is_zero_on_triangle(
     requires second_modest { IsModest (magnitude_of (magnitudes_in grid.now)) pair.1 second.now }
     requires as_many { length first.now ≡ length second.now }
     requires position { IsPosition grid.now values.old }
-    requires triples_room { length triples.old ≡ number_limit }
+    requires triples_room { length triples.old ≡ NUMBER_LIMIT }
     ensures zero { result ≡ on_triangle (λ x y. is_zero_on claim.now.sketch.now.elements claim.now.statement.now (drop k grid.now) (with_value (with_value (assigned values.old) pair.0 x) pair.1 y)) first.now second.now }
     ensures same { result ≡ true → values.new ≡ values.old }
 {

@@ -1,35 +1,36 @@
 -- What a line reads as, by its causes.
-use Rattle.std.proofs.Common.{◌≡◌, ◌∙◌, sym, ap, subst, refl, inl, inr, ◌⊎◌, ℕ, ◌<◌, ◌≤◌, ◌↔◌, Bool, true, false, Option, None, Some, List, length, arith}
-use Rattle.std.specs.Prelude.{◌&&◌, nat_le, if◌then◌else◌, Result, Ok, Err}
-use Rattle.std.specs.Str.{IsUtf8, is_utf8}
+use Rattle.std.proofs.Common.{◌≡◌, ◌∙◌, sym, ap, refl, inl, inr, ℕ, Bool, true, false, Option, None, Some, List, length, arith}
+use Rattle.std.specs.Prelude.{◌&&◌, nat_le, if◌then◌else◌, Ok, Err}
+use Rattle.std.specs.Str.{is_utf8}
 use Rattle.std.proofs.lemmas.Str.{IsUtf8-from_is_utf8, is_utf8-from_IsUtf8}
 use Rattle.std.proofs.lemmas.Bool.Decides.{nat_tests}
 use Rattle.serde_json.specs.Data.{Data}
 use Rattle.serde_json.specs.Read.{read}
 use Rattle.geo_cert.specs.declared.certificates.Certificate.{Certificate}
-use Rattle.geo_cert.specs.Lines.{HasData, HasNone, HasOther, ReadsAs, line_limit}
+use Rattle.geo_cert.specs.Lines.{HasData, HasNone, HasOther, ReadsAs}
 use Rattle.geo_cert.specs.Objects.{certificate_of}
 use Rattle.geo_cert.specs.Shapes.{IsDataOf}
 use Rattle.geo_cert.proofs.WholeLines.{certificate_only, data_reads}
 use Rattle.geo_checker.specs.Reading.{data_of, reading_of, certificate_in_value, certificate_or_two}
+use Rattle.geo_cert.specs.declared.limits.TheConstants.{CERTIFICATE_LIMIT}
 
 -- ---- the value
-data_by : (line : List ℕ) (t u : Bool) → nat_le (length line) line_limit ≡ t → is_utf8 line ≡ u → (d : Data) → (if t && u then read line else None) ≡ Some d → HasData line d
+data_by : (line : List ℕ) (t u : Bool) → nat_le (length line) CERTIFICATE_LIMIT ≡ t → is_utf8 line ≡ u → (d : Data) → (if t && u then read line else None) ≡ Some d → HasData line d
 data_by line true true h i d e = (grind (arith, nat_tests, h), IsUtf8-from_is_utf8 line i, e)
 data_by line true false h i d e = absurd (cc)
 data_by line false u h i d e = absurd (cc)
 
 has_data : (line : List ℕ) (d : Data) → data_of line ≡ Some d → HasData line d
 unfolding data_of
-has_data line d e = data_by line (nat_le (length line) line_limit) (is_utf8 line) refl refl d e
+has_data line d e = data_by line (nat_le (length line) CERTIFICATE_LIMIT) (is_utf8 line) refl refl d e
 
 data_had : (line : List ℕ) (d : Data) → HasData line d → data_of line ≡ Some d
 unfolding data_of
 data_had line d (few, text, reads) =
-    let short : nat_le (length line) line_limit ≡ true = grind (arith, nat_tests, few) in
+    let short : nat_le (length line) CERTIFICATE_LIMIT ≡ true = grind (arith, nat_tests, few) in
     rw (short, is_utf8-from_IsUtf8 line text) reads
 
-none_by : (line : List ℕ) (t u : Bool) → nat_le (length line) line_limit ≡ t → is_utf8 line ≡ u → (if t && u then read line else None) ≡ None → HasNone line
+none_by : (line : List ℕ) (t u : Bool) → nat_le (length line) CERTIFICATE_LIMIT ≡ t → is_utf8 line ≡ u → (if t && u then read line else None) ≡ None → HasNone line
 none_by line true true h i e = inr (λ text. e)
 none_by line true false h i e = inr (λ text. absurd (both (is_utf8 line) i (is_utf8-from_IsUtf8 line text)))
   where
@@ -39,7 +40,7 @@ none_by line false u h i e = inl (grind (arith, nat_tests, h))
 
 has_none : (line : List ℕ) → data_of line ≡ None → HasNone line
 unfolding data_of
-has_none line e = none_by line (nat_le (length line) line_limit) (is_utf8 line) refl refl e
+has_none line e = none_by line (nat_le (length line) CERTIFICATE_LIMIT) (is_utf8 line) refl refl e
 
 -- a line that has a value is not one without
 not_both : (line : List ℕ) (d : Data) → HasData line d → HasNone line → ⊥

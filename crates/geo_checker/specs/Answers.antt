@@ -2,14 +2,16 @@
 use Rattle.std.specs.Prelude.{◌≡◌, ℕ, ◌++◌, ◌==◌, ◌||◌, not, nat_lt, if◌then◌else◌, Bool, true, false, Option, None, Some, Result, Ok, Err, List, [], ◌∷◌, length, flat_map, codes}
 use Rattle.std.specs.List.{list_all, list_any}
 use Rattle.std.specs.Fmt.{decimal}
+use Rattle.geo_sketch.specs.declared.verdicts.Verdict.{Verdict}
+use Rattle.geo_sketch.specs.declared.verdicts.Verdict.TheVariants as verdict
 use Rattle.geo_cert.specs.declared.certificates.CertStop.{CertStop}
 use Rattle.geo_cert.specs.declared.certificates.CertStop.TheVariants.{Bad, NoMemory}
 use Rattle.geo_cert.specs.declared.certificates.Certificate.{Certificate}
-use Rattle.geo_cert.specs.Lines.{line_limit}
 use Rattle.geo_check.specs.declared.checking.Checked.{Checked}
 use Rattle.geo_check.specs.declared.checking.Checked.TheVariants.{Proved, False}
 use Rattle.geo_check.specs.Faults.{checked_of, first_fault}
 use Rattle.geo_checker.specs.Reading.{reading_of}
+use Rattle.geo_cert.specs.declared.limits.TheConstants.{CERTIFICATE_LIMIT}
 
 -- a certificate that is not refused, or the number of the first rule that is broken
 pub data Answer : Type 0 where
@@ -38,7 +40,7 @@ abbrev pub is_blank : ℕ → Bool
 is_blank b = (b == 32) || (b == 9)
 
 unfoldable pub has_answer : List ℕ → Bool
-has_answer line = nat_lt line_limit (length line) || not (list_all is_blank line)
+has_answer line = nat_lt CERTIFICATE_LIMIT (length line) || not (list_all is_blank line)
 
 -- a line, and the answer to it
 pub record Answered : Type 0 where
@@ -71,3 +73,10 @@ is_invalid (invalid n) = true
 
 abbrev pub has_invalid : List Answered → Bool
 has_invalid all = list_any (λ a. is_invalid a.answer) all
+
+-- ---- what is answered to the certificate of a statement with this verdict; where that is not
+-- settled there is no certificate
+abbrev pub verdict_text : Verdict → List ℕ
+verdict_text verdict.Proved = checked_text Proved
+verdict_text (verdict.False values) = checked_text False
+verdict_text (verdict.Unsettled past) = []

@@ -4,12 +4,12 @@ use Rattle.std.specs.Str.{is_utf8}
 use Rattle.serde_json.specs.Data.{Data}
 use Rattle.serde_json.specs.Read.{read}
 use Rattle.geo_cert.specs.declared.certificates.Certificate.{Certificate}
-use Rattle.geo_cert.specs.Lines.{line_limit}
 use Rattle.geo_cert.specs.Objects.{certificate_of}
+use Rattle.geo_cert.specs.declared.limits.TheConstants.{CERTIFICATE_LIMIT}
 
 -- the value of a line that is not too long and is the text of one
 unfoldable pub data_of : List ℕ → Option Data
-data_of line = if nat_le (length line) line_limit && is_utf8 line then read line else None
+data_of line = if nat_le (length line) CERTIFICATE_LIMIT && is_utf8 line then read line else None
 
 abbrev pub certificate_or_two : Option Certificate → Result Certificate ℕ
 certificate_or_two None = Err 2

@@ -1,23 +1,21 @@
 //! The answer to one line.
 
-ghost use Rattle.std.specs.Prelude.{◌≡◌, ◌++◌, IfOk, OnOk};
+ghost use Rattle.std.specs.Prelude.{◌≡◌, ◌++◌, IfOk, OnErr, OnOk};
 ghost use Rattle.std.specs.List.{list_all};
 ghost use Rattle.geo_checker.specs.Answers.{IsCheckedAs, answer_of, answers_to, answer_text, checked_text, invalid, is_invalid, has_answer, has_invalid, is_blank, text_of};
 
-use geo_cert::{CertStop, read};
+use geo_cert::{CERTIFICATE_LIMIT, CertStop, read};
 use geo_check::{Checked, check};
 use geo_sketch::NoMemory;
 use std::alloc::{AllocError, Global};
 
-/// The greatest number of bytes of a certificate.
-const LINE_LIMIT: usize = 65_536;
-
 /// Reads and checks a line, without its line break, and appends the answer to `out`; answers
 /// whether the line was found invalid. A line of spaces and tabs has no answer. Of a longer
-/// line its first 65,537 bytes are enough.
+/// line its first 65,537 bytes are enough. After NoMemory `out` is as it was.
 #[tactic(auto, unfolding(crate::specs::Answers::answers_to))]
 pub fn answer_line(alloc: Global, line: &[u8], out: &mut Vec<u8>) -> Result<bool, NoMemory>
-    ensures { IfOk result (λ invalid. (out.new.items ≡ out.old.items ++ text_of (answers_to line.now)) × (invalid ≡ has_invalid (answers_to line.now))) }
+    ensures answered { IfOk result (λ invalid. (out.new.items ≡ out.old.items ++ text_of (answers_to line.now)) × (invalid ≡ has_invalid (answers_to line.now))) }
+    ensures unchanged { OnErr result (out.new.items ≡ out.old.items) }
 {
     if has_answer(line) {
         write_answer(alloc, line, out)
@@ -30,7 +28,7 @@ pub fn answer_line(alloc: Global, line: &[u8], out: &mut Vec<u8>) -> Result<bool
 fn has_answer(line: &[u8]) -> bool
     ensures { result ≡ has_answer line.now }
 {
-    line.len() > LINE_LIMIT || !are_blank(line)
+    line.len() > CERTIFICATE_LIMIT || !are_blank(line)
 }
 
 fn are_blank(line: &[u8]) -> bool
@@ -41,7 +39,8 @@ fn are_blank(line: &[u8]) -> bool
 
 /// Appends the answer to a line that has one.
 fn write_answer(alloc: Global, line: &[u8], out: &mut Vec<u8>) -> Result<bool, NoMemory>
-    ensures { IfOk result (λ found. (out.new.items ≡ out.old.items ++ answer_text (answer_of line.now)) × (found ≡ is_invalid (answer_of line.now))) }
+    ensures answered { IfOk result (λ found. (out.new.items ≡ out.old.items ++ answer_text (answer_of line.now)) × (found ≡ is_invalid (answer_of line.now))) }
+    ensures unchanged { OnErr result (out.new.items ≡ out.old.items) }
 {
     let (written, found) = match check_line(alloc, line) {
         Ok(checked) => (out.extend_from_slice(text_of(checked)), false),
@@ -73,10 +72,9 @@ fn text_of(checked: Checked) -> &'static [u8]
 }
 
 fn write_invalid(alloc: Global, number: u8, out: &mut Vec<u8>) -> Result<(), AllocError>
-    ensures { OnOk result (out.new.items ≡ out.old.items ++ answer_text (invalid number)) }
+    ensures written { OnOk result (out.new.items ≡ out.old.items ++ answer_text (invalid number)) }
+    ensures unchanged { OnErr result (out.new.items ≡ out.old.items) }
 {
-    let digits = format!(in alloc; "{number}")?;
-    out.extend_from_slice(b"invalid ")?;
-    out.extend_from_slice(digits.as_bytes())?;
-    out.extend_from_slice(b"\n")
+    let text = format!(in alloc; "invalid {number}\n")?;
+    out.extend_from_slice(text.as_bytes())
 }

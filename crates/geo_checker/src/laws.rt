@@ -1,6 +1,6 @@
 //! Laws of the answers: functions that do nothing, whose contracts are the laws.
 
-ghost use Rattle.std.specs.Prelude.{◌≡◌, ◌<◌, ◌↔◌, ℕ, Some, Ok, Err, List, take, map};
+ghost use Rattle.std.specs.Prelude.{◌≡◌, ◌∷◌, [], ◌+◌, ◌<◌, ◌↔◌, ℕ, false, Some, Ok, Err, List, take, map};
 ghost use Rattle.geo_sketch.specs.Sketches.{Drawing, IsDrawn, IsPosed};
 ghost use Rattle.geo_sketch.specs.declared.statements.Statement.{Statement as Claim};
 ghost use Rattle.geo_sketch.specs.declared.verdicts.Verdict.{Verdict as Found};
@@ -9,9 +9,10 @@ ghost use Rattle.geo_cert.specs.declared.certificates.Certificate.{Certificate a
 ghost use Rattle.geo_cert.specs.Lines.{HasNone, HasOther, ReadsAs};
 ghost use Rattle.geo_cert.specs.Making.{certificate_by};
 ghost use Rattle.geo_cert.specs.Written.{line_of};
-ghost use Rattle.geo_checker.specs.Answers.{answer_of, answered, has_invalid, text_of, valid};
+ghost use Rattle.geo_checker.specs.Answers.{answer_of, answered, has_invalid, text_of, valid, verdict_text};
 ghost use Rattle.geo_checker.specs.Reading.{reading_of};
 ghost use Rattle.geo_checker.specs.Truth.{AreRight, IsRight};
+ghost use Rattle.geo_cert.specs.declared.limits.TheConstants.{CERTIFICATE_LIMIT};
 
 use geo_cert::made_certificates_fit;
 use geo_check::{made_certificates_are_valid, valid_certificates_are_true};
@@ -34,14 +35,17 @@ pub fn answers_are_right()
 
 /// Of a line of more than 65,537 bytes these are enough for its answer.
 pub fn long_lines_are_answered_alike()
-    ensures text { (lines : List (List ℕ)) → text_of (answered (map (take 65537) lines)) ≡ text_of (answered lines) }
-    ensures invalid { (lines : List (List ℕ)) → has_invalid (answered (map (take 65537) lines)) ≡ has_invalid (answered lines) }
+    ensures text { (lines : List (List ℕ)) → text_of (answered (map (take (CERTIFICATE_LIMIT + 1)) lines)) ≡ text_of (answered lines) }
+    ensures invalid { (lines : List (List ℕ)) → has_invalid (answered (map (take (CERTIFICATE_LIMIT + 1)) lines)) ≡ has_invalid (answered lines) }
 {}
 
 /// The line that is written of a statement's own verdict is found valid, and as the
-/// certificate that was made.
+/// certificate that was made: the answer to that line alone is `valid` with the same verdict, and
+/// none is invalid.
 pub fn written_certificates_are_valid()
-    ensures { (drawing : Drawing) (s : Claim) (r : Found) (c : Cert) → IsDrawn drawing → IsPosed drawing.elements s → IsStatementVerdict drawing.elements s r → certificate_by drawing.elements s r ≡ Some c → answer_of (line_of c) ≡ valid c }
+    ensures answer { (drawing : Drawing) (s : Claim) (r : Found) (c : Cert) → IsDrawn drawing → IsPosed drawing.elements s → IsStatementVerdict drawing.elements s r → certificate_by drawing.elements s r ≡ Some c → answer_of (line_of c) ≡ valid c }
+    ensures text { (drawing : Drawing) (s : Claim) (r : Found) (c : Cert) → IsDrawn drawing → IsPosed drawing.elements s → IsStatementVerdict drawing.elements s r → certificate_by drawing.elements s r ≡ Some c → text_of (answered (line_of c ∷ [])) ≡ verdict_text r }
+    ensures accepted { (drawing : Drawing) (s : Claim) (r : Found) (c : Cert) → IsDrawn drawing → IsPosed drawing.elements s → IsStatementVerdict drawing.elements s r → certificate_by drawing.elements s r ≡ Some c → has_invalid (answered (line_of c ∷ [])) ≡ false }
 {
     made_certificates_fit();
     made_certificates_are_valid();

@@ -14,11 +14,13 @@ use Rattle.geo_sketch.specs.declared.statements.Statement.TheVariants as stateme
 use Rattle.geo_sketch.specs.Constructions.{by_def, computed, AtNamed, IsConstruction}
 use Rattle.geo_sketch.specs.Lookups.{IsLive}
 use Rattle.geo_sketch.specs.Triples.{of_coordinates, triple_algebra, triple_at}
-use Rattle.geo_sketch.specs.Statements.{coordinates, parts_at}
+use Rattle.geo_sketch.specs.Statements.{parts_at}
+use Rattle.geo_triple.specs.Zero.{coordinates}
 use Rattle.geo_sketch.proofs.ConstructionLaws.{both_named}
 use Rattle.geo_sketch.proofs.LiveElements.{related, live_step}
 use Rattle.geo_degree.specs.Degrees.{degree_algebra, degree_of, statement_degree}
-use Rattle.geo_degree.specs.Grids.{at_axes, axes_among, axes_of, axis, own_parameters, parameters_of, values_on}
+use Rattle.geo_degree.specs.Grids.{at_axes, axes_among, axes_of, axis, parameters_of, values_on}
+use Rattle.geo_sketch.specs.Assignments.{own_parameters}
 use Rattle.geo_degree.specs.Verdicts.{statement_parts}
 use Rattle.geo_degree.proofs.AxisLaws.{Has, statement_parameter}
 

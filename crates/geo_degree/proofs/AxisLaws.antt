@@ -16,7 +16,8 @@ use Rattle.geo_sketch.proofs.ConstructionLaws.{at_named}
 use Rattle.geo_sketch.proofs.LiveElements.{related}
 use Rattle.geo_degree.specs.declared.grids.Axis.{Axis}
 use Rattle.geo_degree.specs.Degrees.{degree_algebra, degree_of, statement_degree}
-use Rattle.geo_degree.specs.Grids.{own_parameters, parameters_of, axis, axes_among, axes_of}
+use Rattle.geo_degree.specs.Grids.{parameters_of, axis, axes_among, axes_of}
+use Rattle.geo_sketch.specs.Assignments.{own_parameters}
 
 -- ---- parameters rise, and so do the axes
 abbrev RiseFrom : ℕ → List ℕ → Type 0

@@ -14,7 +14,8 @@ use Rattle.geo_sketch.specs.declared.statements.Statement.{Statement}
 use Rattle.geo_sketch.specs.declared.statements.Statement.TheVariants as statement
 use Rattle.geo_sketch.specs.Constructions.{by_def, computed, AtNamed, IsConstruction}
 use Rattle.geo_sketch.specs.Heights.{heights_at}
-use Rattle.geo_sketch.specs.PlainHeights.{plain_height_algebra, plain_height_of, threes, height_limit}
+use Rattle.geo_sketch.specs.PlainHeights.{plain_height_algebra, plain_height_of, threes}
+use Rattle.geo_sketch.specs.declared.limits.TheConstants.{HEIGHT_LIMIT}
 use Rattle.geo_sketch.specs.Sketches.{Drawing, IsDrawn}
 use Rattle.geo_sketch.specs.Lookups.{numbered, IsLive}
 use Rattle.geo_sketch.proofs.ConstructionLaws.{at_named}
@@ -62,7 +63,7 @@ power_of_larger a b =
       ]
     ]
 
-small_exponent : (d : ℕ) → 3 ^ d ≤ height_limit → d ≤ element_degree_limit
+small_exponent : (d : ℕ) → 3 ^ d ≤ HEIGHT_LIMIT → d ≤ element_degree_limit
 small_exponent d h =
     elim (cases_order d 26) [
       | inl e ↦ absurd (let large : 3 ^ 26 ≤ 3 ^ d = pow-le-pow_right {n = 3} (omega arith) {i = 26} {j = d} (omega arith) in omega arith)

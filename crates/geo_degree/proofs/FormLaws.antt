@@ -11,7 +11,8 @@ use Rattle.geo_sketch.specs.declared.statements.Statement.{Statement}
 use Rattle.geo_sketch.specs.declared.statements.Statement.TheVariants as statement
 use Rattle.geo_sketch.specs.Heights.{statement_height}
 use Rattle.geo_sketch.specs.PlainHeights.{threes}
-use Rattle.geo_sketch.specs.Sketches.{number_limit, other, Drawing, IsDrawn, IsPosed}
+use Rattle.geo_sketch.specs.Sketches.{other, Drawing, IsDrawn, IsPosed}
+use Rattle.geo_sketch.specs.declared.limits.TheConstants.{NUMBER_LIMIT}
 use Rattle.geo_sketch.specs.Lookups.{numbered, IsLive}
 use Rattle.geo_sketch.specs.Constructions.{IsConstruction}
 use Rattle.geo_sketch.proofs.SketchLaws.{live, constructed}
@@ -54,16 +55,16 @@ module _ (drawing : Drawing) (drawn : IsDrawn drawing) (s : Statement) where
   abbrev axes : List Axis
   axes = axes_of drawing.elements s
 
-  low_parameter : (p : ℕ) → 0 < statement_degree drawing.elements s p → p < 2 * number_limit
+  low_parameter : (p : ℕ) → 0 < statement_degree drawing.elements s p → p < 2 * NUMBER_LIMIT
   low_parameter p h = by_found (numbered drawing.elements (p / 2)) refl
     where
-      by_found : (o : Option Element) → numbered drawing.elements (p / 2) ≡ o → p < 2 * number_limit
+      by_found : (o : Option Element) → numbered drawing.elements (p / 2) ≡ o → p < 2 * NUMBER_LIMIT
       by_found None none = absurd (omega (arith, h, statement_foreign drawing.elements (constructed drawing drawn) p none s))
       by_found (Some e) q = omega (arith, drawn.given (p / 2) e q, drawn.numbers_room)
 
-  parameters : All (λ (a : Axis). (a.param < 2 * number_limit) × (0 < a.degree)) axes
+  parameters : All (λ (a : Axis). (a.param < 2 * NUMBER_LIMIT) × (0 < a.degree)) axes
   parameters =
-      All-weaker (λ (a : Axis). (a.degree ≡ statement_degree drawing.elements s a.param) × (0 < a.degree)) (λ (a : Axis). (a.param < 2 * number_limit) × (0 < a.degree))
+      All-weaker (λ (a : Axis). (a.degree ≡ statement_degree drawing.elements s a.param) × (0 < a.degree)) (λ (a : Axis). (a.param < 2 * NUMBER_LIMIT) × (0 < a.degree))
       (λ a h. (low_parameter a.param (omega (arith, h.0, h.1)), h.1)) axes (axes_by_degree (statement_degree drawing.elements s) (parameters_of drawing.elements))
 
   construction : IsConstruction drawing.elements

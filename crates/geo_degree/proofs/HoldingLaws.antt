@@ -7,7 +7,8 @@ use Rattle.geo_sketch.specs.declared.elements.Element.{Element}
 use Rattle.geo_sketch.specs.declared.statements.Statement.{Statement}
 use Rattle.geo_sketch.specs.Assignments.{assignment_of}
 use Rattle.geo_sketch.specs.Constructions.{IsConstruction}
-use Rattle.geo_sketch.specs.Statements.{AreZero, Holds, parts_at}
+use Rattle.geo_sketch.specs.Statements.{Holds, parts_at}
+use Rattle.geo_triple.specs.Zero.{AreZero}
 use Rattle.geo_degree.specs.declared.grids.Axis.{Axis}
 use Rattle.geo_degree.specs.Grids.{at_axes, axes_of, values_on}
 use Rattle.geo_degree.specs.Questions.{IsClear, IsZeroAt, IsZeroEverywhere, point}

@@ -12,7 +12,8 @@ use Rattle.geo_sketch.specs.declared.elements.Element.{Element}
 use Rattle.geo_sketch.specs.declared.statements.Statement.{Statement}
 use Rattle.geo_sketch.specs.Assignments.{assignment_of}
 use Rattle.geo_sketch.specs.Constructions.{IsConstruction}
-use Rattle.geo_sketch.specs.Statements.{AreZero, Holds, parts_at}
+use Rattle.geo_sketch.specs.Statements.{Holds, parts_at}
+use Rattle.geo_triple.specs.Zero.{AreZero}
 use Rattle.geo_height.specs.Bounds.{AreAtMost}
 use Rattle.geo_height.proofs.HeightLaws.{parts_bounded}
 use Rattle.geo_degree.specs.declared.grids.Axis.{Axis}

@@ -17,7 +17,8 @@ use Rattle.geo_sketch.specs.declared.statements.Statement.TheVariants as stateme
 use Rattle.geo_sketch.specs.Constructions.{by_def, computed, AtNamed, IsConstruction}
 use Rattle.geo_sketch.specs.Lookups.{numbered}
 use Rattle.geo_sketch.specs.Triples.{triple_algebra, triple_at, of_coordinates}
-use Rattle.geo_sketch.specs.Statements.{coordinates, parts_at}
+use Rattle.geo_sketch.specs.Statements.{parts_at}
+use Rattle.geo_triple.specs.Zero.{coordinates}
 use Rattle.geo_sketch.proofs.ConstructionLaws.{at_named}
 use Rattle.geo_sketch.proofs.LiveElements.{related}
 use Rattle.geo_degree.specs.Degrees.{degree_algebra, degree_of, statement_degree}

@@ -6,14 +6,15 @@ use Rattle.std.proofs.lemmas.Bool.Decides.{nat_tests}
 use Rattle.std.proofs.lemmas.List.{get_or-map, length-map}
 use Rattle.std.proofs.lemmas.List.Elements.{All-map, All-weaker}
 use Rattle.geo_law.specs.Triangles.{ArePairs, stands_in}
-use Rattle.geo_sketch.specs.Sketches.{number_limit}
+use Rattle.geo_sketch.specs.declared.limits.TheConstants.{NUMBER_LIMIT}
 use Rattle.geo_degree.specs.declared.grids.Axis.{Axis}
 use Rattle.geo_degree.specs.declared.grids.Block.{Block}
 use Rattle.geo_degree.specs.declared.grids.Block.TheVariants.{One, Pair}
 use Rattle.geo_degree.specs.Blocks.{block_degrees, pairs_from}
 use Rattle.geo_degree.specs.Grids.{axis_magnitude, grid_size}
-use Rattle.geo_degree.specs.Questions.{Question, IsForm, grid_magnitudes, grid_of, pairs, point, size_limit}
+use Rattle.geo_degree.specs.Questions.{Question, IsForm, grid_magnitudes, grid_of, pairs, point}
 use Rattle.geo_degree.proofs.BlockLaws.{few_axes, length_point, point_bounded}
+use Rattle.geo_degree.specs.declared.limits.TheConstants.{SIZE_LIMIT}
 
 -- ---- pairs
 -- no place before the first block's stands in a pair
@@ -81,7 +82,7 @@ module _ (q : Question) (form : IsForm q) where
   positive : All (λ d. 0 < d) (block_degrees q.blocks)
   positive =
       subst (All (λ d. 0 < d)) (sym form.covered)
-      (All-map (λ d. 0 < d) (λ (a : Axis). a.degree) q.axes (All-weaker (λ (a : Axis). (a.param < 2 * number_limit) × (0 < a.degree)) (λ (a : Axis). 0 < a.degree) (λ a h. h.1) q.axes form.parameters))
+      (All-map (λ d. 0 < d) (λ (a : Axis). a.degree) q.axes (All-weaker (λ (a : Axis). (a.param < 2 * NUMBER_LIMIT) × (0 < a.degree)) (λ (a : Axis). 0 < a.degree) (λ a h. h.1) q.axes form.parameters))
 
-  pub axes_are_few : grid_size (grid_of q) ≤ size_limit → length q.axes ≤ 24
+  pub axes_are_few : grid_size (grid_of q) ≤ SIZE_LIMIT → length q.axes ≤ 24
   axes_are_few small = omega (arith, axis_count, few_axes q.blocks positive small)

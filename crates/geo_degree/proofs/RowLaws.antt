@@ -10,13 +10,15 @@ use Rattle.geo_sketch.specs.declared.elements.Def.{Def}
 use Rattle.geo_sketch.specs.declared.elements.Def.TheVariants.{Free, Fixed, Cut, Blend, Cross}
 use Rattle.geo_sketch.specs.declared.elements.Element.{Element}
 use Rattle.geo_sketch.specs.Constructions.{Algebra, by_def, IsConstruction}
-use Rattle.geo_sketch.specs.Sketches.{Drawing, IsDrawn, element_parameters, parameter_count, parameter_limit}
+use Rattle.geo_sketch.specs.Sketches.{Drawing, IsDrawn, element_parameters, parameter_count}
+use Rattle.geo_sketch.specs.declared.limits.TheConstants.{PARAMETER_LIMIT}
 use Rattle.geo_sketch.specs.Tables.{place, Filled}
 use Rattle.geo_sketch.specs.Lookups.{IsLive}
 use Rattle.geo_sketch.proofs.TableLaws.{found_at, number_at, place_within, value_here}
 use Rattle.geo_sketch.proofs.SketchLaws.{constructed}
 use Rattle.geo_degree.specs.Degrees.{degree_algebra, degree_of, element_degree_limit}
-use Rattle.geo_degree.specs.Grids.{own_parameters, parameters_of}
+use Rattle.geo_degree.specs.Grids.{parameters_of}
+use Rattle.geo_sketch.specs.Assignments.{own_parameters}
 use Rattle.geo_degree.specs.Rows.{column, AreLow, HaveRows, IsTabulated}
 use Rattle.geo_degree.proofs.AxisLaws.{Has, has_parameter}
 use Rattle.geo_degree.proofs.DegreeLaws.{element_degree_low}
@@ -95,7 +97,7 @@ module _ (drawing : Drawing) (drawn : IsDrawn drawing) where
       let value : get_or (column rows c) k 0 ≡ degree_of drawing.elements n (get_or (parameters_of drawing.elements) c 0) = ap (λ j. get_or (column rows c) j 0) (sym at.1) ∙ have c l n _ at.0 (omega (arith, at.1, before)) in
       omega (arith, value, element_degree_low drawing drawn n (get_or (parameters_of drawing.elements) c 0)))
 
-  pub few_parameters : length (parameters_of drawing.elements) ≤ parameter_limit
+  pub few_parameters : length (parameters_of drawing.elements) ≤ PARAMETER_LIMIT
   few_parameters = omega (arith, counted drawing.elements, drawn.parameters_room)
 
 -- ---- reading

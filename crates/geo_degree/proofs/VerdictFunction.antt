@@ -7,13 +7,14 @@ use Rattle.std.proofs.lemmas.Bool.Decides.{Decides-int_eq}
 use Rattle.geo_sketch.specs.declared.verdicts.Past.TheVariants.{Size, Height}
 use Rattle.geo_sketch.specs.declared.verdicts.Verdict.{Verdict}
 use Rattle.geo_sketch.specs.declared.verdicts.Verdict.TheVariants.{Proved, False, Unsettled}
-use Rattle.geo_sketch.specs.Samples.{sample_count}
-use Rattle.geo_sketch.specs.Statements.{AreZero}
-use Rattle.geo_height.specs.Capped.{statement_limit}
+use Rattle.geo_sketch.specs.declared.limits.TheConstants.{SAMPLE_COUNT}
+use Rattle.geo_triple.specs.Zero.{AreZero, are_zero}
+use Rattle.geo_triple.specs.declared.limits.TheConstants.{STATEMENT_LIMIT}
 use Rattle.geo_degree.specs.Grids.{grid_size}
-use Rattle.geo_degree.specs.Questions.{Question, IsClear, IsWithinLimits, IsZeroAt, grid_magnitudes, grid_of, point, sample, size_limit}
-use Rattle.geo_degree.specs.VerdictFunction.{are_zero, first_failing, found_or, is_within_limits, verdict_at_samples, verdict_of, verdict_on_grid}
+use Rattle.geo_degree.specs.Questions.{Question, IsClear, IsWithinLimits, IsZeroAt, grid_magnitudes, grid_of, point, sample}
+use Rattle.geo_degree.specs.VerdictFunction.{first_failing, found_or, is_within_limits, verdict_at_samples, verdict_of, verdict_on_grid}
 use Rattle.geo_degree.specs.Verdicts.{IsGridVerdict, IsPast, IsSampleVerdict, IsVerdict}
+use Rattle.geo_degree.specs.declared.limits.TheConstants.{SIZE_LIMIT}
 
 -- ---- tests
 decides_zero : (zs : List ℤ) → Decides (are_zero zs) (AreZero zs)
@@ -25,8 +26,8 @@ decides_zero (z ∷ zs) =
 
 decides_within : (q : Question) → Decides (is_within_limits q) (IsWithinLimits q)
 decides_within q = (
-  λ t. let both = and_parts _ _ t in record { size = leb-true (grid_size (grid_of q)) size_limit both.0; height = leb-true (q.height_at (grid_magnitudes q)) statement_limit both.1 },
-  λ h. and_from _ _ (le-leb (grid_size (grid_of q)) size_limit h.size) (le-leb (q.height_at (grid_magnitudes q)) statement_limit h.height),
+  λ t. let both = and_parts _ _ t in record { size = leb-true (grid_size (grid_of q)) SIZE_LIMIT both.0; height = leb-true (q.height_at (grid_magnitudes q)) STATEMENT_LIMIT both.1 },
+  λ h. and_from _ _ (le-leb (grid_size (grid_of q)) SIZE_LIMIT h.size) (le-leb (q.height_at (grid_magnitudes q)) STATEMENT_LIMIT h.height),
 )
 
 -- ---- the least number below a bound that has not a property
@@ -55,24 +56,24 @@ module _ (q : Question) where
   on_grid None h = h
   on_grid (Some i) h = (i, record { within = h.0; fails = h.1; least = h.2 }, refl)
 
-  high : ¬ IsWithinLimits q → grid_size (grid_of q) ≤ size_limit → statement_limit < q.height_at (grid_magnitudes q)
+  high : ¬ IsWithinLimits q → grid_size (grid_of q) ≤ SIZE_LIMIT → STATEMENT_LIMIT < q.height_at (grid_magnitudes q)
   high past small =
-      elim (cases_lt statement_limit (q.height_at (grid_magnitudes q))) [
+      elim (cases_lt STATEMENT_LIMIT (q.height_at (grid_magnitudes q))) [
         | inl h ↦ h
         | inr low ↦ absurd (past (record { size = small; height = low }))
       ]
 
-  past_limit : ¬ IsWithinLimits q → IsPast q (if nat_lt size_limit (grid_size (grid_of q)) then Size else Height)
+  past_limit : ¬ IsWithinLimits q → IsPast q (if nat_lt SIZE_LIMIT (grid_size (grid_of q)) then Size else Height)
   past_limit past =
-      cond_both (nat_lt size_limit (grid_size (grid_of q))) Size Height (IsPast q)
-      (λ t. ltb-true size_limit (grid_size (grid_of q)) t)
-      (λ t. let small : grid_size (grid_of q) ≤ size_limit = ltb-false size_limit (grid_size (grid_of q)) t in (small, high past small))
+      cond_both (nat_lt SIZE_LIMIT (grid_size (grid_of q))) Size Height (IsPast q)
+      (λ t. ltb-true SIZE_LIMIT (grid_size (grid_of q)) t)
+      (λ t. let small : grid_size (grid_of q) ≤ SIZE_LIMIT = ltb-false SIZE_LIMIT (grid_size (grid_of q)) t in (small, high past small))
 
-  at_samples : ¬ IsWithinLimits q → (o : Option ℕ) → IsFirstWithout (λ s. IsZeroAt q (sample q s)) sample_count o → IsSampleVerdict q (verdict_at_samples q o)
+  at_samples : ¬ IsWithinLimits q → (o : Option ℕ) → IsFirstWithout (λ s. IsZeroAt q (sample q s)) SAMPLE_COUNT o → IsSampleVerdict q (verdict_at_samples q o)
   at_samples past None h = (h, past_limit past)
   at_samples past (Some s) h = (s, record { within = h.0; fails = h.1; first = h.2 }, refl)
 
-  by_limits : (b : Bool) → Decides b (IsWithinLimits q) → (o p : Option ℕ) → IsFirstWithout (λ i. IsZeroAt q (point q i)) (grid_size (grid_of q)) o → IsFirstWithout (λ s. IsZeroAt q (sample q s)) sample_count p → IsVerdict q (IsClear q) (if b then verdict_on_grid q o else verdict_at_samples q p)
+  by_limits : (b : Bool) → Decides b (IsWithinLimits q) → (o p : Option ℕ) → IsFirstWithout (λ i. IsZeroAt q (point q i)) (grid_size (grid_of q)) o → IsFirstWithout (λ s. IsZeroAt q (sample q s)) SAMPLE_COUNT p → IsVerdict q (IsClear q) (if b then verdict_on_grid q o else verdict_at_samples q p)
   by_limits true d o p h g = inl (d.0 refl, on_grid o h)
   by_limits false d o p h g = let past : ¬ IsWithinLimits q = λ w. absurd (let other = d.1 w in cc) in inr (past, at_samples past p g)
 
@@ -81,7 +82,7 @@ module _ (q : Question) where
   verdict_found =
       by_limits (is_within_limits q) (decides_within q) _ _
       (first_is_first (λ i. IsZeroAt q (point q i)) (λ i. are_zero (q.parts_at (point q i))) (λ i. decides_zero (q.parts_at (point q i))) (grid_size (grid_of q)))
-      (first_is_first (λ s. IsZeroAt q (sample q s)) (λ s. are_zero (q.parts_at (sample q s))) (λ s. decides_zero (q.parts_at (sample q s))) sample_count)
+      (first_is_first (λ s. IsZeroAt q (sample q s)) (λ s. are_zero (q.parts_at (sample q s))) (λ s. decides_zero (q.parts_at (sample q s))) SAMPLE_COUNT)
 
   -- ---- and where what holds is something else that follows from it
   on_grid_weaker : (given holds : Type 0) → (given → holds) → (r : Verdict) → IsGridVerdict q given r → IsGridVerdict q holds r

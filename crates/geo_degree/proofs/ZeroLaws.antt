@@ -7,7 +7,7 @@ use Rattle.std.proofs.lemmas.List.{get_or-map, length-map}
 use Rattle.geo_law.specs.Tables.{IsTriangle}
 use Rattle.geo_law.specs.Triangles.{stands_in, values_for, HasEnoughForTriangles, IsOnTriangle, IsOnTriangles, IsZeroOnTriangles}
 use Rattle.geo_law.proofs.GridLaws.{zero_by_triangles}
-use Rattle.geo_sketch.specs.Statements.{AreZero}
+use Rattle.geo_triple.specs.Zero.{AreZero}
 use Rattle.geo_degree.specs.declared.grids.Block.{Block}
 use Rattle.geo_degree.specs.declared.grids.Block.TheVariants.{One, Pair}
 use Rattle.geo_degree.specs.Blocks.{AreDigits, block_degrees, pairs_from, rank}

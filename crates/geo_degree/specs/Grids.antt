@@ -1,23 +1,13 @@
 -- The grid of a statement: a finite list of values for each parameter on which it
 -- depends, enough to decide it.
 use Rattle.std.specs.Prelude.{ℕ, zero, suc, ◌+◌, ◌*◌, ◌/◌, ◌%◌, ◌==◌, nat_lt, if◌then◌else◌, ℤ, pos, neg_ℤ, List, [], ◌∷◌, ◌++◌, length, map, slice_index_or}
-use Rattle.geo_sketch.specs.declared.elements.Def.{Def}
-use Rattle.geo_sketch.specs.declared.elements.Def.TheVariants.{Free, Fixed, Cut, Blend, Cross}
 use Rattle.geo_sketch.specs.declared.elements.Element.{Element}
 use Rattle.geo_sketch.specs.declared.statements.Statement.{Statement}
-use Rattle.geo_sketch.specs.Assignments.{first_parameter, second_parameter}
+use Rattle.geo_sketch.specs.Assignments.{own_parameters}
 use Rattle.geo_degree.specs.declared.grids.Axis.{Axis}
 use Rattle.geo_degree.specs.Degrees.{statement_degree}
 
 -- ---- axes
--- the parameters of element n
-abbrev pub own_parameters : ℕ → Def → List ℕ
-own_parameters n Free = first_parameter n ∷ second_parameter n ∷ []
-own_parameters n (Fixed a b c) = []
-own_parameters n (Cut k) = first_parameter n ∷ []
-own_parameters n (Blend k m) = first_parameter n ∷ []
-own_parameters n (Cross k m) = []
-
 -- the parameters of all elements
 abbrev pub parameters_of : List Element → List ℕ
 parameters_of [] = []

@@ -1,17 +1,18 @@
 -- What is asked: whether some parts, which are whole numbers that depend on the values
 -- of some axes, are all 0. A statement asks so of its parts.
-use Rattle.std.specs.Prelude.{◌≡◌, ℕ, ◌+◌, ◌*◌, ◌<◌, ◌≤◌, ◌^◌, suc, ℤ, pos, unsigned_abs, List, length, map, slice_index_or, slice_set, All, Contains}
+use Rattle.std.specs.Prelude.{◌≡◌, ℕ, ◌+◌, ◌*◌, ◌<◌, ◌≤◌, suc, ℤ, pos, unsigned_abs, List, length, map, slice_index_or, slice_set, All, Contains}
 use Rattle.std.specs.List.{AllZip}
 use Rattle.geo_law.specs.Coefficients.{value_at}
 use Rattle.geo_law.specs.Tables.{value_of_table, IsTriangle}
 use Rattle.geo_sketch.specs.Samples.{sample_value}
-use Rattle.geo_sketch.specs.Sketches.{number_limit}
-use Rattle.geo_sketch.specs.Statements.{AreZero}
-use Rattle.geo_height.specs.Capped.{statement_limit}
+use Rattle.geo_sketch.specs.declared.limits.TheConstants.{NUMBER_LIMIT}
+use Rattle.geo_triple.specs.Zero.{AreZero}
+use Rattle.geo_triple.specs.declared.limits.TheConstants.{STATEMENT_LIMIT}
 use Rattle.geo_degree.specs.declared.grids.Axis.{Axis}
 use Rattle.geo_degree.specs.declared.grids.Block.{Block}
 use Rattle.geo_degree.specs.Blocks.{block_degrees, pairs_from, points_of_all}
 use Rattle.geo_degree.specs.Grids.{Points, axis_magnitude, grid_point, grid_size, values_on}
+use Rattle.geo_degree.specs.declared.limits.TheConstants.{SIZE_LIMIT}
 
 -- its axes, and the blocks that they form; at a list of values, one for each axis, its
 -- parts; for such a list, the number of a part and the place of an axis, the coefficients
@@ -45,7 +46,7 @@ IsZeroEverywhere q = (xs : List ℤ) → length xs ≡ length q.axes → IsZeroA
 -- ---- the laws of a question that a grid can answer
 pub record IsForm (q : Question) : Type 0 where
   -- each axis is a parameter that a sketch may have, and its degree is above 0
-  pub parameters : All (λ (a : Axis). (a.param < 2 * number_limit) × (0 < a.degree)) q.axes
+  pub parameters : All (λ (a : Axis). (a.param < 2 * NUMBER_LIMIT) × (0 < a.degree)) q.axes
   -- with the values of all other axes fixed, a part is the value of its coefficients
   pub agrees : (xs : List ℤ) (k place : ℕ) (x : ℤ) → length xs ≡ length q.axes → place < length q.axes → part q k (slice_set xs place x) ≡ value_at (q.coefficients xs k place) x
   -- of which there are at most degree + 1
@@ -59,7 +60,7 @@ pub record IsForm (q : Question) : Type 0 where
   -- the height bounds each part, at magnitudes that bound the values
   pub bounded : (xs : List ℤ) (ms : List ℕ) (k : ℕ) → length xs ≡ length q.axes → AllZip (λ x m. unsigned_abs x ≤ m) xs ms → unsigned_abs (part q k xs) ≤ q.height_at ms
   -- it is within the limit at magnitude 3
-  pub modest : q.height_at (map (λ (a : Axis). 3) q.axes) ≤ statement_limit
+  pub modest : q.height_at (map (λ (a : Axis). 3) q.axes) ≤ STATEMENT_LIMIT
   -- and does not fall where a magnitude grows
   pub rises : (ms ns : List ℕ) → length ms ≡ length q.axes → AllZip (λ m n. m ≤ n) ms ns → q.height_at ms ≤ q.height_at ns
 
@@ -71,16 +72,13 @@ grid_of q = points_of_all q.blocks
 abbrev pub point : Question → ℕ → List ℤ
 point q i = grid_point (grid_of q) i
 
-abbrev pub size_limit : ℕ
-size_limit = 2 ^ 20
-
 abbrev pub grid_magnitudes : Question → List ℕ
 grid_magnitudes q = map axis_magnitude q.axes
 
 -- the grid has few enough points, and numbers on it are small enough
 pub record IsWithinLimits (q : Question) : Type 0 where
-  pub size : grid_size (grid_of q) ≤ size_limit
-  pub height : q.height_at (grid_magnitudes q) ≤ statement_limit
+  pub size : grid_size (grid_of q) ≤ SIZE_LIMIT
+  pub height : q.height_at (grid_magnitudes q) ≤ STATEMENT_LIMIT
 
 -- all parts are 0 at every grid point
 abbrev pub IsClear : Question → Type 0

@@ -2,7 +2,7 @@
 -- elements, in the order of these.
 use Rattle.std.specs.Prelude.{◌≡◌, ℕ, ◌<◌, ◌≤◌, List, length, map, All, slice_index_or}
 use Rattle.geo_sketch.specs.declared.elements.Element.{Element}
-use Rattle.geo_sketch.specs.Sketches.{parameter_limit}
+use Rattle.geo_sketch.specs.declared.limits.TheConstants.{PARAMETER_LIMIT}
 use Rattle.geo_sketch.specs.Tables.{Filled}
 use Rattle.geo_sketch.specs.Constructions.{IsConstruction}
 use Rattle.geo_degree.specs.Degrees.{degree_algebra, degree_of, element_degree_limit}
@@ -24,7 +24,7 @@ AreLow parameters rows = (c : ℕ) → c < length parameters → All (λ d. d �
 pub record IsTabulated (es : List Element) (parameters : List ℕ) (rows : List (List ℕ)) : Type 0 where
   pub construction : IsConstruction es
   pub low : (n p : ℕ) → degree_of es n p ≤ element_degree_limit
-  pub few : length parameters ≤ parameter_limit
+  pub few : length parameters ≤ PARAMETER_LIMIT
   pub parameters_are : parameters ≡ parameters_of es
   pub one_each : length rows ≡ length es
   pub rows_are : HaveRows es rows (length es)

@@ -8,15 +8,16 @@ use Rattle.geo_sketch.specs.declared.verdicts.Verdict.{Verdict}
 use Rattle.geo_sketch.specs.declared.verdicts.Verdict.TheVariants.{Proved, False, Unsettled}
 use Rattle.geo_sketch.specs.Assignments.{element_of_parameter, first_parameter, second_parameter}
 use Rattle.geo_sketch.specs.Heights.{statement_height}
-use Rattle.geo_sketch.specs.Samples.{sample_count}
+use Rattle.geo_sketch.specs.declared.limits.TheConstants.{SAMPLE_COUNT}
 use Rattle.geo_sketch.specs.Statements.{Holds, parts_at}
-use Rattle.geo_height.specs.Capped.{statement_limit}
+use Rattle.geo_triple.specs.declared.limits.TheConstants.{STATEMENT_LIMIT}
 use Rattle.geo_degree.specs.declared.grids.Axis.{Axis}
 use Rattle.geo_degree.specs.Blocks.{blocks_of}
 use Rattle.geo_degree.specs.Grids.{at_axes, axis, axes_of, grid_size}
 use Rattle.geo_degree.specs.PairPolynomials.{part_tables}
 use Rattle.geo_degree.specs.Polynomials.{part_lists}
-use Rattle.geo_degree.specs.Questions.{Question, grid_magnitudes, grid_of, point, sample, size_limit, IsLeastFailing, IsWithinLimits, IsZeroAt}
+use Rattle.geo_degree.specs.Questions.{Question, grid_magnitudes, grid_of, point, sample, IsLeastFailing, IsWithinLimits, IsZeroAt}
+use Rattle.geo_degree.specs.declared.limits.TheConstants.{SIZE_LIMIT}
 
 -- each axis with its value
 abbrev pub named : List Axis → List ℤ → List (ℕ × ℤ)
@@ -26,18 +27,18 @@ named (a ∷ axes) (x ∷ xs) = (a.param, x) ∷ named axes xs
 
 -- s is the first sample position at which a part is not 0
 pub record IsFirstFailingSample (q : Question) (s : ℕ) : Type 0 where
-  pub within : s < sample_count
+  pub within : s < SAMPLE_COUNT
   pub fails : ¬ IsZeroAt q (sample q s)
   pub first : (t : ℕ) → t < s → IsZeroAt q (sample q t)
 
 -- all parts are 0 at every sample position
 abbrev pub IsZeroAtSamples : Question → Type 0
-IsZeroAtSamples q = (s : ℕ) → s < sample_count → IsZeroAt q (sample q s)
+IsZeroAtSamples q = (s : ℕ) → s < SAMPLE_COUNT → IsZeroAt q (sample q s)
 
 -- the size passes its limit; or it does not, and the height passes its own
 abbrev pub IsPast : Question → Past → Type 0
-IsPast q Size = size_limit < grid_size (grid_of q)
-IsPast q Height = (grid_size (grid_of q) ≤ size_limit) × (statement_limit < q.height_at (grid_magnitudes q))
+IsPast q Size = SIZE_LIMIT < grid_size (grid_of q)
+IsPast q Height = (grid_size (grid_of q) ≤ SIZE_LIMIT) × (STATEMENT_LIMIT < q.height_at (grid_magnitudes q))
 
 -- where the grid is within the limits: proved where the question holds, else false at the
 -- values of the least index at which a part is not 0

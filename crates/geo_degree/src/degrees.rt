@@ -2,12 +2,13 @@
 
 ghost use Rattle.std.specs.Prelude.{◌≡◌, ◌≢◌, ℕ, ◌+◌, ◌*◌, ◌<◌, ◌≤◌, ◌==◌, if◌then◌else◌, ◌++◌, length, max, All, IfOk, OnOk, MatchOption, slice_index_or};
 ghost use Rattle.geo_sketch.specs.Constructions.{by_def};
-ghost use Rattle.geo_sketch.specs.Sketches.{parameter_limit};
+ghost use Rattle.geo_sketch.specs.declared.limits.TheConstants.{PARAMETER_LIMIT};
 ghost use Rattle.geo_sketch.specs.Tables.{place};
 ghost use Rattle.geo_sketch.specs.Lookups.{IsLive};
 ghost use Rattle.geo_sketch.specs.Needs.{AtStated};
 ghost use Rattle.geo_degree.specs.Degrees.{degree_algebra, degree_of, element_degree_limit, statement_degree, statement_degree_limit};
-ghost use Rattle.geo_degree.specs.Grids.{own_parameters, parameters_of as all_parameters};
+ghost use Rattle.geo_degree.specs.Grids.{parameters_of as all_parameters};
+ghost use Rattle.geo_sketch.specs.Assignments.{own_parameters};
 ghost use Rattle.geo_degree.specs.Rows.{AreLow, HaveRows, column};
 
 use geo_sketch::{
@@ -160,7 +161,7 @@ fn list_rows(alloc: Global, sketch: &Sketch, parameters: &[u64]) -> Result<Vec<R
 
 /// The row of an element, from those of earlier ones.
 fn row_by(elements: &[Element], parameters: &[u64], rows: &[Row], element: &Element) -> Row
-    requires few { length parameters.now ≤ parameter_limit }
+    requires few { length parameters.now ≤ PARAMETER_LIMIT }
     requires low { AreLow parameters.now rows.now }
     ensures { (c : ℕ) → c < length parameters.now → slice_index_or result c 0 ≡ by_def (degree_algebra (slice_index_or parameters.now c 0)) element.now.number element.now.def (λ k. slice_index_or (column rows.now c) (place elements.now k) 0) }
 {
@@ -186,7 +187,7 @@ fn row_by(elements: &[Element], parameters: &[u64], rows: &[Row], element: &Elem
 
 /// A row with 1 in the column of a parameter.
 fn marked(parameters: &[u64], own: u64, row: &Row) -> Row
-    requires { length parameters.now ≤ parameter_limit }
+    requires { length parameters.now ≤ PARAMETER_LIMIT }
     ensures { (c : ℕ) → c < length parameters.now → slice_index_or result c 0 ≡ (if own == slice_index_or parameters.now c 0 then 1 else slice_index_or row.now c 0) }
 {
     let mut marked = *row;
@@ -200,7 +201,7 @@ fn marked(parameters: &[u64], own: u64, row: &Row) -> Row
 
 /// In each column the larger degree.
 fn larger(first: &Row, second: &Row) -> Row
-    ensures { (c : ℕ) → c < parameter_limit → slice_index_or result c 0 ≡ max (slice_index_or first.now c 0) (slice_index_or second.now c 0) }
+    ensures { (c : ℕ) → c < PARAMETER_LIMIT → slice_index_or result c 0 ≡ max (slice_index_or first.now c 0) (slice_index_or second.now c 0) }
 {
     let mut row = [0; PARAMETER_LIMIT];
     for c in 0..PARAMETER_LIMIT {
@@ -211,7 +212,7 @@ fn larger(first: &Row, second: &Row) -> Row
 
 /// In each of the first so many columns the sum of the degrees.
 fn sum(count: usize, first: &Row, second: &Row) -> Row
-    requires few { count ≤ parameter_limit }
+    requires few { count ≤ PARAMETER_LIMIT }
     requires low { (c : ℕ) → c < count → (slice_index_or first.now c 0 ≤ element_degree_limit) × (slice_index_or second.now c 0 ≤ element_degree_limit) }
     ensures { (c : ℕ) → c < count → slice_index_or result c 0 ≡ slice_index_or first.now c 0 + slice_index_or second.now c 0 }
 {

@@ -9,10 +9,12 @@ ghost use Rattle.geo_sketch.specs.declared.elements.Element.{Element as Entry};
 ghost use Rattle.geo_sketch.specs.declared.statements.Statement.{Statement as Posed};
 ghost use Rattle.geo_sketch.specs.declared.verdicts.Verdict.{Verdict as Found};
 ghost use Rattle.geo_sketch.specs.Assignments.{first_parameter, second_parameter};
-ghost use Rattle.geo_sketch.specs.Sketches.{Drawing, IsDrawn, IsPosed, parameter_limit};
+ghost use Rattle.geo_sketch.specs.Sketches.{Drawing, IsDrawn, IsPosed};
+ghost use Rattle.geo_sketch.specs.declared.limits.TheConstants.{PARAMETER_LIMIT};
 ghost use Rattle.geo_sketch.specs.Lookups.{numbered};
 ghost use Rattle.geo_sketch.specs.Triples.{triple_at};
-ghost use Rattle.geo_sketch.specs.Statements.{coordinates, parts_at, AreZero, Holds};
+ghost use Rattle.geo_sketch.specs.Statements.{parts_at, Holds};
+ghost use Rattle.geo_triple.specs.Zero.{coordinates, AreZero};
 ghost use Rattle.geo_degree.specs.declared.grids.Axis.{Axis as GridAxis};
 ghost use Rattle.geo_degree.specs.declared.grids.Block.{Block as GridBlock};
 ghost use Rattle.geo_degree.specs.Blocks.{AreDigits, point_count, points_of, points_of_all, rank};
@@ -20,9 +22,10 @@ ghost use Rattle.geo_degree.specs.Degrees.{degree_of, element_degree_limit, stat
 ghost use Rattle.geo_degree.specs.Grids.{axes_of, axis, axis_values, grid_point, grid_size, grid_value, values_on};
 ghost use Rattle.geo_degree.specs.PairPolynomials.{AreTriangles, coordinate_tables, part_tables, tables_of, values_of_tables, with_pair};
 ghost use Rattle.geo_degree.specs.Polynomials.{AreShort, assignment_on, coordinate_lists, lists_of, part_lists, parts_along, values_at, with_value};
-ghost use Rattle.geo_degree.specs.Questions.{Question, IsClear, IsForm, IsZeroEverywhere, grid_magnitudes, grid_of, point, size_limit};
+ghost use Rattle.geo_degree.specs.Questions.{Question, IsClear, IsForm, IsZeroEverywhere, grid_magnitudes, grid_of, point};
 ghost use Rattle.geo_degree.specs.VerdictFunction.{verdict_of};
 ghost use Rattle.geo_degree.specs.Verdicts.{question_of, statement_parts, ArePaired, IsAmong, IsVerdict, IsStatementVerdict, coefficients_over, height_over, parts_over, table_over};
+ghost use Rattle.geo_degree.specs.declared.limits.TheConstants.{SIZE_LIMIT};
 
 /// In each parameter p, with all others fixed at any whole numbers, each coordinate of
 /// an element is the value of its coefficient list, which has at most as many entries
@@ -114,7 +117,7 @@ pub fn points_are_numbered_by_digits()
 /// A grid within the limit of its size has at most as many axes as a sketch has parameters,
 /// since a Pair has at least 3 points and a One at least 2.
 pub fn grids_have_few_axes()
-    ensures { (q : Question) → IsForm q → grid_size (grid_of q) ≤ size_limit → length q.axes ≤ parameter_limit }
+    ensures { (q : Question) → IsForm q → grid_size (grid_of q) ≤ SIZE_LIMIT → length q.axes ≤ PARAMETER_LIMIT }
 {}
 
 /// What is 0 at every grid point is 0 at all whole-number values of the axes: a part has, in

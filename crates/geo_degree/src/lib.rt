@@ -5,6 +5,7 @@
 mod degrees;
 mod grids;
 mod laws;
+mod limits;
 
 pub use degrees::Degrees;
 pub use grids::{Axis, Block, grid_value};
@@ -17,6 +18,7 @@ pub use laws::{
     points_are_numbered_by_digits, points_have_a_value_for_each_axis, statements_are_forms,
     verdict_of_is_the_verdict,
 };
+pub use limits::SIZE_LIMIT;
 
 #[cfg(test)]
 mod tests;

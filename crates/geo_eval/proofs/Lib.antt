@@ -1,3 +1,4 @@
+mod DualPlaces
 mod FollowLaws
 mod ReachLaws
 mod SceneLaws

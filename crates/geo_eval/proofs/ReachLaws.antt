@@ -18,7 +18,7 @@ use Rattle.geo_sketch.specs.Assignments.{first_parameter, second_parameter, firs
 use Rattle.geo_sketch.specs.Constructions.{by_def, AtNamed}
 use Rattle.geo_sketch.specs.Heights.{heights_algebra, cut_heights, blend_heights}
 use Rattle.geo_sketch.specs.Lookups.{numbered, Rises, IsLive}
-use Rattle.geo_sketch.specs.PlainHeights.{height_limit}
+use Rattle.geo_sketch.specs.declared.limits.TheConstants.{HEIGHT_LIMIT}
 use Rattle.geo_sketch.specs.Sketches.{Drawing, IsDrawn}
 use Rattle.geo_sketch.specs.Tables.{place}
 use Rattle.geo_sketch.specs.Triples.{triple_algebra}
@@ -29,7 +29,8 @@ use Rattle.geo_sketch.proofs.NumberLaws.{number_found}
 use Rattle.geo_sketch.proofs.SketchLaws.{constructed}
 use Rattle.geo_sketch.proofs.TableLaws.{place_before, found_at, number_at}
 use Rattle.geo_height.specs.declared.heights.Heights.{Heights}
-use Rattle.geo_height.specs.Capped.{statement_limit, heights_within, sizes_in}
+use Rattle.geo_height.specs.Capped.{heights_within, sizes_in}
+use Rattle.geo_triple.specs.declared.limits.TheConstants.{STATEMENT_LIMIT}
 use Rattle.geo_height.proofs.CappedLaws.{all_near, one_far}
 use Rattle.geo_height.proofs.HeightLaws.{fits, positive}
 use Rattle.geo_height.proofs.SumLaws.{ArePositive, largest-cut, largest-blend_left, largest-blend_right, cut_sums-fit}
@@ -40,58 +41,58 @@ use Rattle.geo_eval.specs.Shown.{current_heights, current_triple, here_by, here_
 use Rattle.geo_eval.specs.Reaches.{slot_at, IsSizedSlot, or_past, current_reach, kept_of, AreKept, IsSized, kept, kept_by, from_one, from_both, reach_by, reach_at, here_by_reach}
 
 -- ---- heights within the limit, and past it
-kept_near : (g : Sizes) (t : Triple) → largest_of g ≤ statement_limit → kept g t ≡ Within record { a = g.a; b = g.b; c = g.c } t
+kept_near : (g : Sizes) (t : Triple) → largest_of g ≤ STATEMENT_LIMIT → kept g t ≡ Within record { a = g.a; b = g.b; c = g.c } t
 kept_near g t p = ap (λ o. kept_by o t) (all_near g p)
 
-kept_far : (g : Sizes) (t : Triple) → statement_limit < largest_of g → kept g t ≡ Past
+kept_far : (g : Sizes) (t : Triple) → STATEMENT_LIMIT < largest_of g → kept g t ≡ Past
 kept_far g t p = ap (λ o. kept_by o t) (one_far g p)
 
 -- what is known to be within the limit
-within : (g : Sizes) (h : Heights) → heights_within g ≡ Some h → largest_of g ≤ statement_limit
+within : (g : Sizes) (h : Heights) → heights_within g ≡ Some h → largest_of g ≤ STATEMENT_LIMIT
 within g h q =
-    elim (cases_lt statement_limit (largest_of g)) [
+    elim (cases_lt STATEMENT_LIMIT (largest_of g)) [
       | inl past ↦ absurd (let none = one_far g past in cc)
       | inr low ↦ low
     ]
 
 -- ---- so the products of triples are
-pub cut_ready : (t : Triple) (g h : Heights) (m : ℕ) → FitIn (sizes_of t) (sizes_in g) → heights_within (cut_heights (sizes_in g) m) ≡ Some h → largest_of (cut_sums (sizes_of t) m) ≤ statement_limit
+pub cut_ready : (t : Triple) (g h : Heights) (m : ℕ) → FitIn (sizes_of t) (sizes_in g) → heights_within (cut_heights (sizes_in g) m) ≡ Some h → largest_of (cut_sums (sizes_of t) m) ≤ STATEMENT_LIMIT
 cut_ready t g h m p q =
     le_trans
     (largest-grows (cut_sums (sizes_of t) m) (cut_heights (sizes_in g) m) (fit_trans _ (cut_sums (sizes_in g) m) _ (cut_sums-grows (sizes_of t) (sizes_in g) m m p (le_refl m)) (cut_sums-fit (sizes_in g) m)))
     (within (cut_heights (sizes_in g) m) h q)
 
-pub blend_ready : (s t : Triple) (g h k : Heights) (m : ℕ) → FitIn (sizes_of s) (sizes_in g) → FitIn (sizes_of t) (sizes_in h) → heights_within (blend_heights (sizes_in g) (sizes_in h) m) ≡ Some k → largest_of (blend_sums (sizes_of s) (sizes_of t) m) ≤ statement_limit
+pub blend_ready : (s t : Triple) (g h k : Heights) (m : ℕ) → FitIn (sizes_of s) (sizes_in g) → FitIn (sizes_of t) (sizes_in h) → heights_within (blend_heights (sizes_in g) (sizes_in h) m) ≡ Some k → largest_of (blend_sums (sizes_of s) (sizes_of t) m) ≤ STATEMENT_LIMIT
 blend_ready s t g h k m p q e =
     let weight : m ≤ max 1 m = omega arith in
     le_trans
     (largest-grows (blend_sums (sizes_of s) (sizes_of t) m) (blend_heights (sizes_in g) (sizes_in h) m) (blend_sums-grows (sizes_of s) (sizes_in g) (sizes_of t) (sizes_in h) m (max 1 m) p q weight))
     (within (blend_heights (sizes_in g) (sizes_in h) m) k e)
 
-pub cross_ready : (s t : Triple) (g h k : Heights) → FitIn (sizes_of s) (sizes_in g) → FitIn (sizes_of t) (sizes_in h) → heights_within (cross_sums (sizes_in g) (sizes_in h)) ≡ Some k → largest_of (cross_sums (sizes_of s) (sizes_of t)) ≤ statement_limit
+pub cross_ready : (s t : Triple) (g h k : Heights) → FitIn (sizes_of s) (sizes_in g) → FitIn (sizes_of t) (sizes_in h) → heights_within (cross_sums (sizes_in g) (sizes_in h)) ≡ Some k → largest_of (cross_sums (sizes_of s) (sizes_of t)) ≤ STATEMENT_LIMIT
 cross_ready s t g h k p q e =
     le_trans
     (largest-grows (cross_sums (sizes_of s) (sizes_of t)) (cross_sums (sizes_in g) (sizes_in h)) (cross_sums-grows (sizes_of s) (sizes_in g) (sizes_of t) (sizes_in h) p q))
     (within (cross_sums (sizes_in g) (sizes_in h)) k e)
 
 -- and so is a triple whose height is low
-pub primitive_ready : (t : Triple) (g : Heights) → FitIn (sizes_of t) (sizes_in g) → largest_of (sizes_in g) ≤ height_limit → size_of t ≤ statement_limit
+pub primitive_ready : (t : Triple) (g : Heights) → FitIn (sizes_of t) (sizes_in g) → largest_of (sizes_in g) ≤ HEIGHT_LIMIT → size_of t ≤ STATEMENT_LIMIT
 primitive_ready t g p low =
-    size_bound t statement_limit (omega arith) (omega (arith, p.a, a-largest (sizes_in g))) (omega (arith, p.b, b-largest (sizes_in g))) (omega (arith, p.c, c-largest (sizes_in g)))
+    size_bound t STATEMENT_LIMIT (omega arith) (omega (arith, p.a, a-largest (sizes_in g))) (omega (arith, p.b, b-largest (sizes_in g))) (omega (arith, p.c, c-largest (sizes_in g)))
 
 -- ---- what is made of what is kept
 one_kept : (f : Sizes → Sizes) (u : Triple → Triple) (g : Sizes) (t : Triple) → largest_of g ≤ largest_of (f g) → from_one (kept g t) f u ≡ kept (f g) (u t)
 one_kept f u g t p =
-    elim (cases_lt statement_limit (largest_of g)) [
+    elim (cases_lt STATEMENT_LIMIT (largest_of g)) [
       | inl past ↦ rw (kept_far g t past, kept_far (f g) (u t) (omega arith)) refl
       | inr low ↦ rw (kept_near g t low) refl
     ]
 
 both_kept : (f : Sizes → Sizes → Sizes) (u : Triple → Triple → Triple) (g h : Sizes) (s t : Triple) → largest_of g ≤ largest_of (f g h) → largest_of h ≤ largest_of (f g h) → from_both (kept g s) (kept h t) f u ≡ kept (f g h) (u s t)
 both_kept f u g h s t p q =
-    elim (cases_lt statement_limit (largest_of g)) [
+    elim (cases_lt STATEMENT_LIMIT (largest_of g)) [
       | inl past ↦ rw (kept_far g s past, kept_far (f g h) (u s t) (omega arith)) refl
-      | inr low ↦ elim (cases_lt statement_limit (largest_of h)) [
+      | inr low ↦ elim (cases_lt STATEMENT_LIMIT (largest_of h)) [
         | inl past ↦ rw (kept_near g s low, kept_far h t past, kept_far (f g h) (u s t) (omega arith)) refl
         | inr near ↦ rw (kept_near g s low, kept_near h t near) refl
       ]
@@ -115,7 +116,7 @@ reach_made (Cross k l) n v s heights triples earlier p q h =
 -- what bounds the coordinates bounds those of what is kept
 kept_sized : (g : Sizes) (t : Triple) → FitIn (sizes_of t) g → IsSized (kept g t)
 kept_sized g t p =
-    elim (cases_lt statement_limit (largest_of g)) [
+    elim (cases_lt STATEMENT_LIMIT (largest_of g)) [
       | inl past ↦ rw (kept_far g t past) tt
       | inr low ↦ rw (kept_near g t low) p
     ]
@@ -169,10 +170,10 @@ kept_more drawing slots new i x found here own others before n e q within =
     ]
 
 -- where an element is shown, by what is kept of it
-here_kept : (g : Sizes) (t : Triple) → here_by_reach (kept g t) ≡ (if nat_lt height_limit (largest_of g) then Far else here_by (primitive_of t))
+here_kept : (g : Sizes) (t : Triple) → here_by_reach (kept g t) ≡ (if nat_lt HEIGHT_LIMIT (largest_of g) then Far else here_by (primitive_of t))
 here_kept g t =
-    elim (cases_lt statement_limit (largest_of g)) [
-      | inl past ↦ (let far : nat_lt height_limit (largest_of g) ≡ true = grind (arith, nat_tests) in rw (kept_far g t past, far) refl)
+    elim (cases_lt STATEMENT_LIMIT (largest_of g)) [
+      | inl past ↦ (let far : nat_lt HEIGHT_LIMIT (largest_of g) ≡ true = grind (arith, nat_tests) in rw (kept_far g t past, far) refl)
       | inr low ↦ rw (kept_near g t low) refl
     ]
 

@@ -12,7 +12,7 @@ use Rattle.geo_sketch.specs.declared.elements.Element.{Element}
 use Rattle.geo_sketch.specs.Assignments.{first_value, second_value}
 use Rattle.geo_sketch.specs.Heights.{blend_heights, cut_heights}
 use Rattle.geo_sketch.specs.Lookups.{numbered}
-use Rattle.geo_sketch.specs.PlainHeights.{height_limit}
+use Rattle.geo_sketch.specs.declared.limits.TheConstants.{HEIGHT_LIMIT}
 use Rattle.geo_sketch.specs.Sketches.{Drawing}
 use Rattle.geo_sketch.specs.Tables.{place}
 use Rattle.geo_sketch.specs.Triples.{of_coordinates}
@@ -86,4 +86,4 @@ AreKept drawing slots count = (n : ℕ) (e : Element) → numbered drawing.eleme
 -- ---- where an element is, by what is kept of it
 abbrev pub here_by_reach : Reach → Here
 here_by_reach Past = Far
-here_by_reach (Within heights triple) = if nat_lt height_limit (largest_of (sizes_in heights)) then Far else here_by (primitive_of triple)
+here_by_reach (Within heights triple) = if nat_lt HEIGHT_LIMIT (largest_of (sizes_in heights)) then Far else here_by (primitive_of triple)

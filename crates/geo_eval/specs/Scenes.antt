@@ -10,7 +10,8 @@ use Rattle.geo_sketch.specs.Lookups.{numbered}
 use Rattle.geo_eval.specs.declared.evaluation.Reach.{Reach}
 use Rattle.geo_eval.specs.declared.here.Here.{Here}
 use Rattle.geo_eval.specs.Reaches.{slot_at, kept_of}
-use Rattle.geo_eval.specs.Shown.{Shown, here_of}
+use Rattle.geo_eval.specs.declared.here.Shown.{Shown}
+use Rattle.geo_eval.specs.Shown.{here_of}
 
 -- it keeps of each number that was given what is shown of the sketch
 pub record IsSceneOf (slots : List (Option Reach)) (drawing : Drawing) : Type 0 where

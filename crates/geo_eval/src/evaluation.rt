@@ -13,7 +13,7 @@ ghost use Rattle.geo_eval.specs.Reaches.{IsSized, IsSizedSlot, current_reach, fr
 
 use crate::here::Here;
 use geo_height::Heights;
-use geo_sketch::{Def, Element, HEIGHT_LIMIT, Setting, Sketch};
+use geo_sketch::{Def, Element, HEIGHT_LIMIT, Setting, Sketch, of_values};
 use geo_triple::{Steps, Triple, blend, cross, cut, primitive};
 use std::sync::ledger::Ledger;
 
@@ -94,23 +94,13 @@ fn free(x: i64, y: i64) -> Reach
     ensures { result ≡ kept (of_sizes (max 1 (unsigned_abs x)) (max 1 (unsigned_abs y)) 1) (of_coordinates x y (pos 1)) }
 {
     let heights = Heights::of_free(x.unsigned_abs(), y.unsigned_abs());
-    Reach::Within(heights, triple(x, y, 1))
+    Reach::Within(heights, of_values(x, y, 1))
 }
 
 fn fixed(a: i64, b: i64, c: i64) -> Reach
     ensures { result ≡ kept (of_sizes (max 1 (unsigned_abs a)) (max 1 (unsigned_abs b)) (max 1 (unsigned_abs c))) (of_coordinates a b c) }
 {
-    Reach::Within(Heights::of_fixed(a, b, c), triple(a, b, c))
-}
-
-fn triple(a: i64, b: i64, c: i64) -> Triple
-    ensures { result ≡ of_coordinates a b c }
-{
-    Triple {
-        a: i128::from(a),
-        b: i128::from(b),
-        c: i128::from(c),
-    }
+    Reach::Within(Heights::of_fixed(a, b, c), of_values(a, b, c))
 }
 
 fn cut_reach(k: Reach, by: i64) -> Reach

@@ -3,9 +3,11 @@
 
 mod evaluation;
 mod here;
+mod laws;
 mod scene;
 
-pub use here::Here;
+pub use here::{Here, Shown};
+pub use laws::dual_keeps_places;
 pub use scene::Scene;
 
 #[cfg(test)]

@@ -2,18 +2,18 @@
 
 ghost use Rattle.std.specs.Prelude.{◌≡◌, ◌+◌, ◌<◌, All, IsOk, OnErr, OnOk, Some, false, true, if◌then◌else◌, length, slice_index_or, slice_set};
 ghost use Rattle.geo_sketch.specs.Changes.{LeadsFrom, LeadsTo, applied, taken_back};
-ghost use Rattle.geo_sketch.specs.Constructions.{AtNamed, by_def};
+ghost use Rattle.geo_sketch.specs.Constructions.{AtNamed};
 ghost use Rattle.geo_sketch.specs.Dependence.{depends_algebra, depends_on};
 ghost use Rattle.geo_sketch.specs.Sketches.{Drawing, IsDrawn, blank};
 ghost use Rattle.geo_sketch.specs.Lookups.{numbered};
 ghost use Rattle.geo_sketch.specs.Tables.{place};
 ghost use Rattle.geo_eval.specs.Reaches.{IsSizedSlot, current_reach, kept_of, slot_at};
 ghost use Rattle.geo_eval.specs.Scenes.{IsSceneOf, Leads, before_of, dependents, evaluations, here_at, here_in, takes_memory};
-ghost use Rattle.geo_eval.specs.Shown.{shown_of};
+ghost use Rattle.geo_eval.specs.Shown.{shown, shown_of};
 
 use crate::evaluation::{Reach, evaluate_element, here_of_reach};
-use crate::here::Here;
-use geo_sketch::{Def, Delta, ELEMENT_LIMIT, Element, NoMemory, Setting, Sketch, place_of};
+use crate::here::{Here, Shown};
+use geo_sketch::{Delta, ELEMENT_LIMIT, Element, NoMemory, Setting, Sketch, depends_by, place_of};
 use geo_triple::Steps;
 use std::alloc::Global;
 use std::marker::Model;
@@ -103,6 +103,23 @@ impl Scene {
         }
     }
 
+    /// What is shown of a live element of the sketch.
+    pub fn shown(&self, sketch: &Sketch, element: &Element) -> Shown
+        requires scene { IsSceneOf self.now sketch.now }
+        requires live { numbered sketch.now.elements element.now.number ≡ Some element.now }
+        ensures { result ≡ shown sketch.now element.now }
+    {
+        match self.get(element.number) {
+            Some(here) => Shown {
+                number: element.number,
+                name: element.name,
+                kind: element.kind,
+                here,
+            },
+            None => unreachable!(),
+        }
+    }
+
     /// An element was added.
     fn take_in<L: Ledger>(
         &mut self,
@@ -183,7 +200,7 @@ impl Scene {
         let mut moved = [false; ELEMENT_LIMIT];
         for i in 0..elements.len() {
             let element = &elements[i];
-            let moves = is_moved(elements, &moved, element, number);
+            let moves = depends_by(elements, &moved, element, number);
             moved[i] = moves;
             self.renew(sketch, element, moves, steps);
         }
@@ -208,29 +225,5 @@ impl Scene {
             let reach = evaluate_element(sketch, element, &self.slots, steps);
             self.slots[element.number as usize] = Some(reach);
         }
-    }
-}
-
-/// Whether an element is the dragged one or names an element that is moved, by what
-/// is known of those before it; `moved` is indexed by places.
-fn is_moved(elements: &[Element], moved: &[bool], element: &Element, dragged: u32) -> bool
-    ensures { result ≡ by_def (depends_algebra dragged) element.now.number element.now.def (λ k. slice_index_or moved.now (place elements.now k) false) }
-{
-    let is_it = element.number == dragged;
-    match &element.def {
-        Def::Free | Def::Fixed(_, _, _) => is_it,
-        Def::Cut(k) => is_it || moved_at(elements, moved, *k),
-        Def::Blend(k, m) | Def::Cross(k, m) => {
-            is_it || moved_at(elements, moved, *k) || moved_at(elements, moved, *m)
-        }
-    }
-}
-
-fn moved_at(elements: &[Element], moved: &[bool], number: u32) -> bool
-    ensures { result ≡ slice_index_or moved.now (place elements.now number) false }
-{
-    match moved.get(place_of(elements, number)) {
-        Some(moves) => *moves,
-        None => false,
     }
 }

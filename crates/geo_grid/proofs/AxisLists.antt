@@ -6,15 +6,16 @@ use Rattle.std.proofs.lemmas.List.{append-nil, take_more}
 use Rattle.geo_sketch.specs.declared.elements.Def.TheVariants.{Free}
 use Rattle.geo_sketch.specs.declared.elements.Element.{Element}
 use Rattle.geo_sketch.specs.declared.statements.Statement.{Statement}
-use Rattle.geo_sketch.specs.Assignments.{first_parameter, second_parameter}
-use Rattle.geo_sketch.specs.Sketches.{Drawing, IsDrawn, number_limit}
+use Rattle.geo_sketch.specs.Assignments.{first_parameter, second_parameter, own_parameters}
+use Rattle.geo_sketch.specs.Sketches.{Drawing, IsDrawn}
+use Rattle.geo_sketch.specs.declared.limits.TheConstants.{NUMBER_LIMIT}
 use Rattle.geo_sketch.specs.Lookups.{numbered}
 use Rattle.geo_sketch.proofs.TableLaws.{number_at}
 use Rattle.geo_sketch.proofs.SketchLaws.{constructed}
 use Rattle.geo_degree.specs.Blocks.{blocks_among, own_blocks}
 use Rattle.geo_degree.specs.Degrees.{statement_degree}
 use Rattle.geo_degree.proofs.PairLaws.{same_statement_degree}
-use Rattle.geo_degree.specs.Grids.{axes_among, axis, own_parameters, parameters_of}
+use Rattle.geo_degree.specs.Grids.{axes_among, axis, parameters_of}
 
 axes_among-append : (degree : ℕ → ℕ) (ps qs : List ℕ) → axes_among degree (ps ++ qs) ≡ axes_among degree ps ++ axes_among degree qs
 axes_among-append degree [] qs = refl
@@ -47,7 +48,7 @@ blocks_more degree es i x within same =
     ap (blocks_among degree) more ∙ blocks_among-append degree (take i es) (x ∷ []) ∙ ap (λ bs. blocks_among degree (take i es) ++ bs) (append-nil (own_blocks degree x.number x.def))
 
 -- numbers are below the limit
-pub number_low : (drawing : Drawing) (i : ℕ) (x : Element) → IsDrawn drawing → i < length drawing.elements → x ≡ get_or drawing.elements i x → x.number < number_limit
+pub number_low : (drawing : Drawing) (i : ℕ) (x : Element) → IsDrawn drawing → i < length drawing.elements → x ≡ get_or drawing.elements i x → x.number < NUMBER_LIMIT
 number_low drawing i x drawn within same =
     let there = number_at 0 drawing.elements i x drawn.rising within in
     let given : (get_or drawing.elements i x).number < length drawing.settings = drawn.given _ _ there.0 in

@@ -13,7 +13,8 @@ use Rattle.geo_sketch.specs.Heights.{height_of, statement_height}
 use Rattle.geo_sketch.specs.Lookups.{IsLive}
 use Rattle.geo_sketch.specs.Needs.{stated, AtStated}
 use Rattle.geo_sketch.specs.Sketches.{Drawing, IsDrawn}
-use Rattle.geo_sketch.specs.Statements.{coordinates, parts_at}
+use Rattle.geo_sketch.specs.Statements.{parts_at}
+use Rattle.geo_triple.specs.Zero.{coordinates}
 use Rattle.geo_sketch.specs.Triples.{triple_at}
 use Rattle.geo_sketch.proofs.SketchLaws.{constructed}
 use Rattle.geo_sketch.proofs.StatementLaws.{at_stated}

@@ -9,7 +9,7 @@ use Rattle.geo_sketch.specs.declared.elements.Def.TheVariants.{Free, Fixed, Cut,
 use Rattle.geo_sketch.specs.declared.elements.Element.{Element}
 use Rattle.geo_sketch.specs.Constructions.{AtNamed, IsConstruction}
 use Rattle.geo_sketch.specs.Dependence.{depends_on}
-use Rattle.geo_sketch.specs.Sketches.{element_limit}
+use Rattle.geo_sketch.specs.declared.limits.TheConstants.{ELEMENT_LIMIT}
 use Rattle.geo_sketch.specs.Lookups.{numbered, IsLive}
 use Rattle.geo_sketch.specs.Needs.{is_needed}
 use Rattle.geo_sketch.specs.Tables.{place}
@@ -138,7 +138,7 @@ module _ (es : List Element) (c : IsConstruction es) (named : List ℕ) where
         h
 
     -- one that is
-    pub flags_spread : (first : List ℕ) (flags : List Bool) → length es ≤ element_limit → get_or flags i false ≡ true → AreFlagged es named first flags (i + 1) → AreFlagged es named first (flagged_by es x.def flags) i
+    pub flags_spread : (first : List ℕ) (flags : List Bool) → length es ≤ ELEMENT_LIMIT → get_or flags i false ≡ true → AreFlagged es named first flags (i + 1) → AreFlagged es named first (flagged_by es x.def flags) i
     flags_spread first flags room on h =
         let flagged : IsFlagged es flags x.number = ap (λ j. get_or flags j false) own ∙ on in
         let needed = h.needed x.number x found flagged in
@@ -165,17 +165,17 @@ off zero k = refl
 off (suc count) zero = refl
 off (suc count) (suc k) = off count k
 
-pub none_flagged : (es : List Element) (named : List ℕ) → AreFlagged es named [] (replicate element_limit false) (length es)
+pub none_flagged : (es : List Element) (named : List ℕ) → AreFlagged es named [] (replicate ELEMENT_LIMIT false) (length es)
 none_flagged es named =
     record {
       room = refl;
-      needed = λ n e found t. absurd (let apart : true ≡ false = sym t ∙ off element_limit (place es n) in cc);
+      needed = λ n e found t. absurd (let apart : true ≡ false = sym t ∙ off ELEMENT_LIMIT (place es n) in cc);
       all = λ k d within. absurd (omega arith);
       closed = λ n e found late t. absurd (omega (arith, late, place_within es n e found));
     }
 
 -- a named element more
-pub flagged_on : (es : List Element) → IsConstruction es → (named : List ℕ) (i : ℕ) (flags : List Bool) → i < length named → length es ≤ element_limit → All (IsLive es) named → AreFlagged es named (take i named) flags (length es) → AreFlagged es named (take (i + 1) named) (set flags (place es (get_or named i 0)) true) (length es)
+pub flagged_on : (es : List Element) → IsConstruction es → (named : List ℕ) (i : ℕ) (flags : List Bool) → i < length named → length es ≤ ELEMENT_LIMIT → All (IsLive es) named → AreFlagged es named (take i named) flags (length es) → AreFlagged es named (take (i + 1) named) (set flags (place es (get_or named i 0)) true) (length es)
 flagged_on es c named i flags within room live h =
     let n = get_or named i 0 in
     let here = live i 0 within in

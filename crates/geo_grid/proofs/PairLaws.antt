@@ -8,12 +8,15 @@ use Rattle.geo_sketch.specs.declared.elements.Def.TheVariants.{Free, Fixed, Cut,
 use Rattle.geo_sketch.specs.declared.elements.Element.{Element}
 use Rattle.geo_sketch.specs.declared.statements.Statement.{Statement}
 use Rattle.geo_sketch.specs.Heights.{height_of, statement_height}
-use Rattle.geo_sketch.specs.Sketches.{element_parameters, parameter_count, parameter_limit, Drawing, IsDrawn}
+use Rattle.geo_sketch.specs.Sketches.{element_parameters, parameter_count, Drawing, IsDrawn}
+use Rattle.geo_sketch.specs.declared.limits.TheConstants.{PARAMETER_LIMIT}
 use Rattle.geo_height.specs.Bounds.{magnitude_of}
-use Rattle.geo_height.specs.Capped.{statement_limit, within_limit}
+use Rattle.geo_height.specs.Capped.{within_limit}
+use Rattle.geo_triple.specs.declared.limits.TheConstants.{STATEMENT_LIMIT}
 use Rattle.geo_degree.specs.declared.grids.Axis.{Axis}
 use Rattle.geo_degree.specs.Degrees.{statement_degree}
-use Rattle.geo_degree.specs.Grids.{at_axes, axes_among, axes_of, axis, own_parameters, parameters_of}
+use Rattle.geo_degree.specs.Grids.{at_axes, axes_among, axes_of, axis, parameters_of}
+use Rattle.geo_sketch.specs.Assignments.{own_parameters}
 use Rattle.geo_degree.specs.Verdicts.{statement_height_at}
 use Rattle.geo_grid.specs.Pairs.{paired}
 
@@ -50,7 +53,7 @@ parameters_count : (es : List Element) → length (parameters_of es) ≡ sum_by 
 parameters_count [] = refl
 parameters_count (e ∷ es) = length-append (own_parameters e.number e.def) (parameters_of es) ∙ omega (arith, own_count e.number e.def, parameters_count es, sum_by-cons element_parameters e es)
 
-pub few_axes : (drawing : Drawing) (s : Statement) → IsDrawn drawing → length (axes_of drawing.elements s) ≤ parameter_limit
+pub few_axes : (drawing : Drawing) (s : Statement) → IsDrawn drawing → length (axes_of drawing.elements s) ≤ PARAMETER_LIMIT
 few_axes drawing s drawn = omega (arith, axes_few (statement_degree drawing.elements s) (parameters_of drawing.elements), parameters_count drawing.elements, drawn.parameters_room)
 
 -- ---- the height at the pairs
@@ -63,7 +66,7 @@ height_of_paired es n axes ms = ap (height_of es n) (λ i p. magnitude_paired ax
 
 -- ---- a height that is given as far as it is within the limit
 pub within_some : (h x : ℕ) → Some x ≡ within_limit h → x ≡ h
-within_some h x = cond_both (nat_lt statement_limit h) None (Some h) (λ o. Some x ≡ o → x ≡ h) (λ t e. cc) (λ t e. cc)
+within_some h x = cond_both (nat_lt STATEMENT_LIMIT h) None (Some h) (λ o. Some x ≡ o → x ≡ h) (λ t e. cc) (λ t e. cc)
 
-pub within_none : (h : ℕ) → None ≡ within_limit h → statement_limit < h
-within_none h = cond_both (nat_lt statement_limit h) None (Some h) (λ (o : Option ℕ). None ≡ o → statement_limit < h) (λ t e. ltb-true statement_limit h t) (λ t e. cc)
+pub within_none : (h : ℕ) → None ≡ within_limit h → STATEMENT_LIMIT < h
+within_none h = cond_both (nat_lt STATEMENT_LIMIT h) None (Some h) (λ (o : Option ℕ). None ≡ o → STATEMENT_LIMIT < h) (λ t e. ltb-true STATEMENT_LIMIT h t) (λ t e. cc)

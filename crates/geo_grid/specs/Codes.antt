@@ -11,7 +11,7 @@ use Rattle.geo_sketch.specs.declared.statements.Statement.TheVariants as stateme
 use Rattle.geo_sketch.specs.Assignments.{first_parameter, second_parameter}
 use Rattle.geo_sketch.specs.Lookups.{IsLive}
 use Rattle.geo_sketch.specs.Sketches.{IsDrawn}
-use Rattle.geo_sketch.specs.Statements.{coordinates}
+use Rattle.geo_triple.specs.Zero.{coordinates}
 use Rattle.geo_sketch.specs.Tables.{place}
 use Rattle.geo_degree.specs.declared.grids.Axis.{Axis}
 use Rattle.geo_degree.specs.Grids.{axis_magnitude}
@@ -20,7 +20,8 @@ use Rattle.geo_grid.specs.declared.posing.node.Node.{Node}
 use Rattle.geo_grid.specs.declared.posing.node.Node.TheVariants as node
 use Rattle.geo_grid.specs.declared.posing.condition.Condition.{Condition}
 use Rattle.geo_grid.specs.declared.posing.condition.Condition.TheVariants as condition
-use Rattle.geo_grid.specs.Nodes.{short_limit, size_there, triple_there}
+use Rattle.geo_grid.specs.Nodes.{size_there, triple_there}
+use Rattle.geo_triple.specs.declared.limits.TheConstants.{SHORT_LIMIT}
 use Rattle.geo_grid.specs.Orders.{AreStarts, order_of}
 use Rattle.geo_grid.specs.Plans.{Planned}
 use Rattle.geo_grid.specs.Works.{AreLow}
@@ -88,7 +89,7 @@ pub record IsPlan (p : Planned) (order : List Element) (nodes : List Node) (star
   pub nodes_are : nodes ≡ map (node_of p.axes (order_of p)) (order_of p)
   pub starts_are : AreStarts p.drawing.elements p.named p.axes starts
   -- the lane of 64 bits is taken only where it suffices on the grid of the axes
-  pub short_is : short ≡ true → AreLow short_limit p (map axis_magnitude p.axes)
+  pub short_is : short ≡ true → AreLow SHORT_LIMIT p (map axis_magnitude p.axes)
 
 -- the place of element n in the order of a plan
 abbrev pub place_in : Planned → ℕ → ℕ

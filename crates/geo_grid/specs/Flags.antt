@@ -4,7 +4,7 @@ use Rattle.geo_sketch.specs.declared.elements.Def.{Def}
 use Rattle.geo_sketch.specs.declared.elements.Def.TheVariants.{Free, Fixed, Cut, Blend, Cross}
 use Rattle.geo_sketch.specs.declared.elements.Element.{Element}
 use Rattle.geo_sketch.specs.Constructions.{AtNamed}
-use Rattle.geo_sketch.specs.Sketches.{element_limit}
+use Rattle.geo_sketch.specs.declared.limits.TheConstants.{ELEMENT_LIMIT}
 use Rattle.geo_sketch.specs.Lookups.{numbered}
 use Rattle.geo_sketch.specs.Needs.{is_needed}
 use Rattle.geo_sketch.specs.Tables.{place}
@@ -15,7 +15,7 @@ IsFlagged es flags n = slice_index_or flags (place es n) false ≡ true
 -- the first of the named elements are flagged, and none that is not needed; and where an
 -- element at this place or a later one is flagged, so are those that its definition names
 pub record AreFlagged (es : List Element) (named first : List ℕ) (flags : List Bool) (from : ℕ) : Type 0 where
-  pub room : length flags ≡ element_limit
+  pub room : length flags ≡ ELEMENT_LIMIT
   pub needed : (n : ℕ) (e : Element) → numbered es n ≡ Some e → IsFlagged es flags n → is_needed es named n ≡ true
   pub all : All (IsFlagged es flags) first
   pub closed : (n : ℕ) (e : Element) → numbered es n ≡ Some e → from ≤ place es n → IsFlagged es flags n → AtNamed e.def (IsFlagged es flags)

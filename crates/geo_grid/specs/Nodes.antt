@@ -1,15 +1,11 @@
 -- One step of a plan: what it makes of the triples before it and of the values of the axes.
-use Rattle.std.specs.Prelude.{ℕ, ◌<◌, ◌^◌, ◌-◌, max, ℤ, pos, unsigned_abs, List, slice_index_or}
+use Rattle.std.specs.Prelude.{ℕ, ◌<◌, max, ℤ, pos, unsigned_abs, List, slice_index_or}
 use Rattle.geo_triple.specs.declared.Triple.{Triple}
 use Rattle.geo_triple.specs.Sums.{blend_sums, cross_sums, cut_sums, largest_of, sizes_of}
 use Rattle.geo_triple.specs.Triple.{blend_of, cross_of, cut_of, zero_triple}
 use Rattle.geo_sketch.specs.Triples.{of_coordinates}
 use Rattle.geo_grid.specs.declared.posing.node.Node.{Node}
 use Rattle.geo_grid.specs.declared.posing.node.Node.TheVariants.{Free, Fixed, Cut, Blend, Cross}
-
--- the greatest number of the lane of 64 bits
-abbrev pub short_limit : ℕ
-short_limit = 2 ^ 63 - 1
 
 -- the value of the axis at a place, and 0 past the last one
 abbrev pub axis_value : List ℤ → ℕ → ℤ

@@ -5,7 +5,7 @@ use Rattle.std.proofs.lemmas.Int.{ints, unsigned_abs-mul}
 use Rattle.geo_algebra.proofs.Ring.{ring, reads}
 use Rattle.geo_law.specs.Coefficients.{value_at}
 use Rattle.geo_law.specs.Tables.{value_of_table, IsTriangle}
-use Rattle.geo_height.specs.Capped.{statement_limit}
+use Rattle.geo_triple.specs.declared.limits.TheConstants.{STATEMENT_LIMIT}
 use Rattle.geo_degree.specs.declared.grids.Axis.{Axis}
 use Rattle.geo_degree.specs.declared.grids.Block.{Block}
 use Rattle.geo_degree.specs.Questions.{IsForm}
@@ -56,7 +56,7 @@ bounded (u ∷ v ∷ w ∷ xs) (m ∷ n ∷ []) k l h = absurd h.1.1
 bounded (u ∷ v ∷ w ∷ xs) (m ∷ n ∷ o ∷ ms) zero l h = omega (arith, unsigned_abs-mul (factor_at (u ∷ v ∷ [])) w, mul-le-mul (factor_bounded u v m n h.0 h.1.0) h.1.1.0)
 bounded (u ∷ v ∷ w ∷ xs) (m ∷ n ∷ o ∷ ms) (suc k) l h = omega arith
 
-modest : (axes : List Axis) → length axes ≡ 3 → (get_or (map (λ (a : Axis). 3) axes) 0 0 + get_or (map (λ (a : Axis). 3) axes) 1 0) * get_or (map (λ (a : Axis). 3) axes) 2 0 ≤ statement_limit
+modest : (axes : List Axis) → length axes ≡ 3 → (get_or (map (λ (a : Axis). 3) axes) 0 0 + get_or (map (λ (a : Axis). 3) axes) 1 0) * get_or (map (λ (a : Axis). 3) axes) 2 0 ≤ STATEMENT_LIMIT
 modest [] l = absurd (omega arith)
 modest (a ∷ []) l = absurd (omega arith)
 modest (a ∷ b ∷ []) l = absurd (omega arith)

@@ -1,6 +1,6 @@
 -- A small question, of which the tests make a form: whether (x - y) z is 0.
 use Rattle.std.specs.Prelude.{◌≡◌, ℕ, zero, suc, ◌+◌, ◌*◌, ◌<◌, ℤ, pos, neg_ℤ, ◌-ℤ◌, ◌*ℤ◌, List, [], ◌∷◌, length, map, slice_index_or, All}
-use Rattle.geo_sketch.specs.Sketches.{number_limit}
+use Rattle.geo_sketch.specs.declared.limits.TheConstants.{NUMBER_LIMIT}
 use Rattle.geo_degree.specs.declared.grids.Axis.{Axis}
 use Rattle.geo_degree.specs.declared.grids.Block.{Block}
 use Rattle.geo_degree.specs.Blocks.{block_degrees, pairs_from}
@@ -40,7 +40,7 @@ product_question axes blocks = record {
 -- the first two of three axes are a Pair, and the degrees may be more than 1
 pub record AreProper (axes : List Axis) (blocks : List Block) : Type 0 where
   pub count : length axes ≡ 3
-  pub parameters : All (λ (a : Axis). (a.param < 2 * number_limit) × (0 < a.degree)) axes
+  pub parameters : All (λ (a : Axis). (a.param < 2 * NUMBER_LIMIT) × (0 < a.degree)) axes
   pub covered : block_degrees blocks ≡ map (λ (a : Axis). a.degree) axes
   pub pair : pairs_from 0 blocks ≡ (0, 1) ∷ []
 

@@ -6,7 +6,7 @@ use Rattle.geo_sketch.specs.declared.elements.Element.{Element}
 use Rattle.geo_sketch.specs.declared.statements.Statement.{Statement}
 use Rattle.geo_sketch.specs.Heights.{height_of}
 use Rattle.geo_sketch.specs.Triples.{triple_at}
-use Rattle.geo_height.specs.Capped.{statement_limit}
+use Rattle.geo_triple.specs.declared.limits.TheConstants.{STATEMENT_LIMIT}
 use Rattle.geo_degree.specs.declared.grids.Axis.{Axis}
 use Rattle.geo_degree.specs.Grids.{at_axes, axis, axis_magnitude}
 use Rattle.geo_degree.specs.Verdicts.{statement_height_at}
@@ -38,13 +38,13 @@ pub record IsFresh (p : Planned) (work : Scratch) : Type 0 where
 
 pub record StandsFor (p : Planned) (work : Scratch) (xs : List ℤ) : Type 0 where
   pub count : length xs ≡ length p.axes
-  pub low : AreLow statement_limit p (map unsigned_abs xs)
+  pub low : AreLow STATEMENT_LIMIT p (map unsigned_abs xs)
   pub triples_are : work.triples.items ≡ triples_of p xs
   pub marked : (work.numbers.items ≡ pos 1 ∷ []) ⊎ ((work.numbers.items ≡ pos 2 ∷ []) × IsOnGridFrom 0 p.axes xs)
 
 -- and what the statement asks of them is within the limit
 abbrev pub TellsOf : Planned → Statement → Scratch → List ℤ → Type 0
-TellsOf p s work xs = StandsFor p work xs × (statement_height_at p.drawing.elements s (map unsigned_abs xs) ≤ statement_limit)
+TellsOf p s work xs = StandsFor p work xs × (statement_height_at p.drawing.elements s (map unsigned_abs xs) ≤ STATEMENT_LIMIT)
 
 -- at this place of every work that stands for some values is the triple of element n there
 abbrev pub HasPlace : Planned → ℕ → ℕ → Type 0

@@ -3,7 +3,6 @@
 mod axes;
 mod condition;
 mod encoding;
-mod lane;
 mod levels;
 mod lookups;
 mod magnitudes;

@@ -12,7 +12,8 @@ use Rattle.geo_sketch.specs.Drops.{speaks_of}
 use Rattle.geo_sketch.specs.Lookups.{def_at, kind_at, numbered, IsLive, Rises}
 use Rattle.geo_sketch.specs.Needs.{AtStated}
 use Rattle.geo_sketch.specs.Posing.{fits, is_rising, of_one_kind, of_two_kinds}
-use Rattle.geo_sketch.specs.Samples.{sample_count, sample_value}
+use Rattle.geo_sketch.specs.Samples.{sample_value}
+use Rattle.geo_sketch.specs.declared.limits.TheConstants.{SAMPLE_COUNT}
 use Rattle.geo_sketch.specs.Sketches.{Drawing, IsDrawn}
 use Rattle.geo_sketch.specs.Tables.{place}
 use Rattle.geo_sketch.specs.Triples.{triple_algebra, triple_at}
@@ -22,7 +23,8 @@ use Rattle.geo_sketch.proofs.NumberLaws.{found_from, gone, others_stay}
 use Rattle.geo_sketch.proofs.SketchLaws.{constructed, drawn_built}
 use Rattle.geo_sketch.proofs.StatementLaws.{at_stated, names_others, parts_same, plain_same}
 use Rattle.geo_guess.specs.Candidates.{numbers, statements_after, statements_over}
-use Rattle.geo_guess.specs.Conjectures.{are_together, are_zero, conjectures_of, holds_at_samples, holds_below, is_conjecture, is_nowhere, is_proper, IsWithout}
+use Rattle.geo_guess.specs.Conjectures.{are_together, conjectures_of, holds_at_samples, holds_below, is_conjecture, is_nowhere, is_proper, IsWithout}
+use Rattle.geo_triple.specs.Zero.{are_zero}
 use Rattle.geo_guess.specs.Order.{all_placed}
 use Rattle.geo_guess.proofs.CandidateLaws.{naming_later, numbers_without, over_others}
 use Rattle.geo_guess.proofs.Filters.{filter_both, filter_swapped}
@@ -47,7 +49,7 @@ module _ (es fs : List Element) where
 
   samples_same : (s : Statement) → AtStated s SameTriples → holds_at_samples es s ≡ holds_at_samples fs s
   unfolding holds_at_samples
-  samples_same s h = holds_same s h sample_count
+  samples_same s h = holds_same s h SAMPLE_COUNT
 
   nowhere_same : (n : ℕ) → SameTriples n → is_nowhere es n ≡ is_nowhere fs n
   nowhere_same n h = samples_same (statement.Null n) h
@@ -112,7 +114,7 @@ ascends low (x ∷ es) high r h given =
     let here : numbered (x ∷ es) x.number ≡ Some x = rw (eq-eqb x.number x.number refl) refl in
     (r.0, ascends (x.number + 1) es high r.1 (omega (arith, given x.number x here)) (λ n e q. given n e (rw (ne_eqb x.number n (λ p. absurd (omega (arith, p, found_from (x.number + 1) es n e r.1 q)))) q)))
 
-climbs : (drawing : Drawing) → IsDrawn drawing → Climbs 0 (conjectures_of drawing.elements) (4000000 * length drawing.settings)
+pub climbs : (drawing : Drawing) → IsDrawn drawing → Climbs 0 (conjectures_of drawing.elements) (4000000 * length drawing.settings)
 climbs drawing drawn =
     climbs_filter (is_conjecture drawing.elements) 0 (statements_over (numbers drawing.elements)) (4000000 * length drawing.settings)
     (over_climbs (numbers drawing.elements) (length drawing.settings) drawn.numbers_room (ascends 0 drawing.elements (length drawing.settings) drawn.rising (omega arith) drawn.given))

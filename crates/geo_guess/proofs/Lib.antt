@@ -3,5 +3,6 @@ mod ConjectureLaws
 mod Filters
 pub mod ListedLaws
 mod LowTriples
+mod NoticedLaws
 mod OrderLaws
 mod SampleLaws

@@ -19,9 +19,11 @@ use Rattle.geo_sketch.specs.Constructions.{computed}
 use Rattle.geo_sketch.specs.Lookups.{def_at, kind_at, numbered, IsLive}
 use Rattle.geo_sketch.specs.PlainStatements.{is_plain}
 use Rattle.geo_sketch.specs.Posing.{fits, is_posed, of_one_kind, of_two_kinds}
-use Rattle.geo_sketch.specs.Samples.{sample_count, sample_value}
+use Rattle.geo_sketch.specs.Samples.{sample_value}
+use Rattle.geo_sketch.specs.declared.limits.TheConstants.{SAMPLE_COUNT}
 use Rattle.geo_sketch.specs.Sketches.{other, Drawing, IsDrawn, IsPosed}
-use Rattle.geo_sketch.specs.Statements.{parts_at, AreZero, Holds}
+use Rattle.geo_sketch.specs.Statements.{parts_at, Holds}
+use Rattle.geo_triple.specs.Zero.{AreZero, are_zero}
 use Rattle.geo_sketch.specs.Tables.{place}
 use Rattle.geo_sketch.specs.Triples.{triple_algebra, triple_at}
 use Rattle.geo_sketch.proofs.ChangeLaws.{taken_back_is}
@@ -35,7 +37,7 @@ use Rattle.geo_sketch.proofs.StatementLaws.{at_all, parts_same}
 use Rattle.geo_sketch.proofs.TableLaws.{found_at, place_before, place_within}
 use Rattle.geo_sketch.proofs.ValueLaws.{triples_agree}
 use Rattle.geo_guess.specs.Candidates.{numbers, triples_ending_in, ending_in, statements_after, statements_over}
-use Rattle.geo_guess.specs.Conjectures.{are_zero, conjectures_of, holds_at_samples, holds_below, is_conjecture, is_proper, is_zero_at, IsWithout}
+use Rattle.geo_guess.specs.Conjectures.{conjectures_of, holds_at_samples, holds_below, is_conjecture, is_proper, is_zero_at, IsWithout}
 use Rattle.geo_guess.proofs.CandidateLaws.{two_parts}
 use Rattle.geo_guess.proofs.ConjectureLaws.{conjecture_same, SameTriples}
 
@@ -148,7 +150,7 @@ are_zero_true : (zs : List ℤ) → AreZero zs → are_zero zs ≡ true
 are_zero_true [] h = refl
 are_zero_true (z ∷ zs) h = rw ((Decides-int_eq z (pos 0)).1 h.0) (are_zero_true zs h.1)
 
-passed_kept : (p : Statement → Bool) (ss : List Statement) (s : Statement) (i : ℕ) → i < length ss → get_or ss i s ≡ s → p s ≡ true → Contains (filter p ss) s
+pub passed_kept : (p : Statement → Bool) (ss : List Statement) (s : Statement) (i : ℕ) → i < length ss → get_or ss i s ≡ s → p s ≡ true → Contains (filter p ss) s
 passed_kept p [] s i h q t = absurd (omega (arith, h))
 passed_kept p (x ∷ ss) s zero h q t = rw (ap p q ∙ t) (0, omega arith, q)
 passed_kept p (x ∷ ss) s (suc i) h q t =
@@ -181,7 +183,7 @@ module _ (drawing : Drawing) (drawn : IsDrawn drawing) where
 
   holds_at_all : (s : Statement) → Holds drawing.elements s → holds_at_samples drawing.elements s ≡ true
   unfolding holds_at_samples
-  holds_at_all s h = holds_first s h sample_count
+  holds_at_all s h = holds_first s h SAMPLE_COUNT
 
   pub holding_listed : (s : Statement) → IsPosed drawing.elements s → Holds drawing.elements s → is_proper drawing.elements s ≡ true → is_plain drawing.elements s ≡ false → Contains (conjectures_of drawing.elements) s
   holding_listed s posed h proper plain =

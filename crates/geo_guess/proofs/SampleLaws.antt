@@ -1,5 +1,5 @@
 -- What is kept at the sample positions, as elements come and leave.
-use Rattle.std.proofs.Common.{◌≡◌, ◌≢◌, ◌∙◌, sym, ap, subst, refl, inl, inr, ℕ, zero, suc, ◌+◌, ◌<◌, ◌≤◌, ◌++◌, None, Some, List, [], ◌∷◌, length, get_or, map, replicate, arith, ℤ}
+use Rattle.std.proofs.Common.{◌≡◌, ◌≢◌, ◌∙◌, sym, ap, subst, refl, inl, inr, ℕ, zero, suc, ◌+◌, ◌<◌, ◌++◌, None, Some, List, [], ◌∷◌, length, get_or, map, replicate, arith, ℤ}
 use Rattle.std.specs.Prelude.{set}
 use Rattle.std.proofs.lemmas.Bool.{cases_eq}
 use Rattle.std.proofs.lemmas.List.{get_or-set_same, get_or-set_other}
@@ -9,7 +9,8 @@ use Rattle.geo_sketch.specs.declared.elements.Element.{Element}
 use Rattle.geo_sketch.specs.Changes.{exchanged}
 use Rattle.geo_sketch.specs.Constructions.{by_def, computed}
 use Rattle.geo_sketch.specs.Lookups.{numbered, IsLive}
-use Rattle.geo_sketch.specs.Samples.{sample_count, sample_value}
+use Rattle.geo_sketch.specs.Samples.{sample_value}
+use Rattle.geo_sketch.specs.declared.limits.TheConstants.{SAMPLE_COUNT}
 use Rattle.geo_sketch.specs.Sketches.{Drawing, IsDrawn}
 use Rattle.geo_sketch.specs.Triples.{triple_algebra, triple_at}
 use Rattle.geo_sketch.proofs.ConstructionLaws.{at_named, by_def_same}
@@ -52,8 +53,8 @@ module _ (drawing rest : Drawing) (n : ℕ) (w : IsWithout drawing rest n) where
   others_stay m v ne = ap (λ (es : List Element). triple_at es m v) w.elements ∙ sym (others_like drawing rest n w m ne v)
 
   -- the triples that its definition makes
-  pub made_here : (old : List (List Triple)) (e : Element) (triples : List Triple) → AreSamples rest.elements old → numbered drawing.elements n ≡ Some e → AreMade old e triples sample_count
-      → (position : ℕ) → position < sample_count → get_or triples position zero_triple ≡ triple_at drawing.elements n (sample_value position)
+  pub made_here : (old : List (List Triple)) (e : Element) (triples : List Triple) → AreSamples rest.elements old → numbered drawing.elements n ≡ Some e → AreMade old e triples SAMPLE_COUNT
+      → (position : ℕ) → position < SAMPLE_COUNT → get_or triples position zero_triple ≡ triple_at drawing.elements n (sample_value position)
   made_here old e triples are q made position within =
       let es = drawing.elements in
       let A = triple_algebra (sample_value position) in
@@ -67,7 +68,7 @@ module _ (drawing rest : Drawing) (n : ℕ) (w : IsWithout drawing rest n) where
   nothing_here q triples h position = h position ∙ sym (absent_step drawing.elements (constructed drawing w.drawn) (triple_algebra (sample_value position)) n q)
 
   module _ (old new : List (List Triple)) (others : AreSameBut n old new) where
-    pub samples_come : AreSamples rest.elements old → ((position : ℕ) → position < sample_count → sample_in new n position ≡ triple_at drawing.elements n (sample_value position)) → AreSamples drawing.elements new
+    pub samples_come : AreSamples rest.elements old → ((position : ℕ) → position < SAMPLE_COUNT → sample_in new n position ≡ triple_at drawing.elements n (sample_value position)) → AreSamples drawing.elements new
     samples_come are here m position within =
         elim (cases_eq m n) [
           | inl q ↦ subst (λ k. sample_in new k position ≡ triple_at drawing.elements k (sample_value position)) (sym q) (here position within)
@@ -79,7 +80,7 @@ module _ (drawing rest : Drawing) (n : ℕ) (w : IsWithout drawing rest n) where
         absent_step rest.elements (constructed rest w.rest_drawn) (triple_algebra (sample_value position)) n
         (ap (λ (fs : List Element). numbered fs n) w.elements ∙ gone 0 drawing.elements n w.drawn.rising)
 
-    pub samples_leave : AreSamples drawing.elements old → ((position : ℕ) → position < sample_count → sample_in new n position ≡ zero_triple) → AreSamples rest.elements new
+    pub samples_leave : AreSamples drawing.elements old → ((position : ℕ) → position < SAMPLE_COUNT → sample_in new n position ≡ zero_triple) → AreSamples rest.elements new
     samples_leave are here m position within =
         elim (cases_eq m n) [
           | inl q ↦ subst (λ k. sample_in new k position ≡ triple_at rest.elements k (sample_value position)) (sym q) (here position within ∙ sym (none_left position))
@@ -87,7 +88,7 @@ module _ (drawing rest : Drawing) (n : ℕ) (w : IsWithout drawing rest n) where
         ]
 
     -- it came and left again
-    pub samples_back : AreSamples rest.elements old → ((position : ℕ) → position < sample_count → sample_in new n position ≡ zero_triple) → AreSamples rest.elements new
+    pub samples_back : AreSamples rest.elements old → ((position : ℕ) → position < SAMPLE_COUNT → sample_in new n position ≡ zero_triple) → AreSamples rest.elements new
     samples_back are here m position within =
         elim (cases_eq m n) [
           | inl q ↦ subst (λ k. sample_in new k position ≡ triple_at rest.elements k (sample_value position)) (sym q) (here position within ∙ sym (none_left position))

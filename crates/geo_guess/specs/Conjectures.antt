@@ -1,21 +1,18 @@
 -- The conjectures of a sketch: the posed statements that are proper, hold at eight sample positions
 -- and are not plain, in the order of all statements.
-use Rattle.std.specs.Prelude.{◌≡◌, ℕ, zero, suc, ℤ, pos, ◌&&◌, ◌||◌, not, Bool, true, List, [], ◌∷◌, filter}
-use Rattle.std.specs.Ordering.{int_eq}
+use Rattle.std.specs.Prelude.{◌≡◌, ℕ, zero, suc, ◌&&◌, ◌||◌, not, Bool, true, List, filter}
+use Rattle.geo_triple.specs.Zero.{are_zero}
 use Rattle.geo_sketch.specs.declared.elements.Element.{Element}
 use Rattle.geo_sketch.specs.declared.statements.Statement.{Statement}
 use Rattle.geo_sketch.specs.declared.statements.Statement.TheVariants as statement
 use Rattle.geo_sketch.specs.Changes.{without}
 use Rattle.geo_sketch.specs.PlainStatements.{is_plain}
 use Rattle.geo_sketch.specs.Posing.{is_posed}
-use Rattle.geo_sketch.specs.Samples.{sample_count, sample_value}
+use Rattle.geo_sketch.specs.Samples.{sample_value}
+use Rattle.geo_sketch.specs.declared.limits.TheConstants.{SAMPLE_COUNT}
 use Rattle.geo_sketch.specs.Sketches.{Drawing, IsDrawn}
 use Rattle.geo_sketch.specs.Statements.{parts_at}
 use Rattle.geo_guess.specs.Candidates.{numbers, statements_over}
-
-abbrev pub are_zero : List ℤ → Bool
-are_zero [] = true
-are_zero (z ∷ zs) = int_eq z (pos 0) && are_zero zs
 
 -- all parts of the statement are 0 at this sample position
 abbrev pub is_zero_at : List Element → Statement → ℕ → Bool
@@ -28,7 +25,7 @@ holds_below es s (suc position) = holds_below es s position && is_zero_at es s p
 
 -- at all eight
 unfoldable pub holds_at_samples : List Element → Statement → Bool
-holds_at_samples es s = holds_below es s sample_count
+holds_at_samples es s = holds_below es s SAMPLE_COUNT
 
 -- the element is zero at all sample positions
 abbrev pub is_nowhere : List Element → ℕ → Bool

@@ -9,9 +9,9 @@ ghost use Rattle.geo_guess.specs.Samples.{AreLow, AreSamples};
 
 use crate::candidates::statements_from;
 use crate::order::put_all;
-use crate::samples::{SAMPLE_COUNT, keep, let_go, triples_in};
+use crate::samples::{keep, let_go, triples_in};
 use crate::scan::conjectures_naming;
-use geo_sketch::{NoMemory, Sketch, Statement};
+use geo_sketch::{NoMemory, SAMPLE_COUNT, Sketch, Statement};
 use geo_triple::Triple;
 use std::alloc::Global;
 use std::marker::Model;

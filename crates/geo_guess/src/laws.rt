@@ -1,6 +1,6 @@
 //! Laws of what is listed.
 
-ghost use Rattle.std.specs.Prelude.{◌≡◌, Contains, List, false, map, true};
+ghost use Rattle.std.specs.Prelude.{◌≡◌, ◌↔◌, Contains, List, false, map, true};
 ghost use Rattle.geo_sketch.specs.Changes.{applied, exchanged, taken_back, LeadsFrom, LeadsTo};
 ghost use Rattle.geo_sketch.specs.PlainStatements.{is_plain};
 ghost use Rattle.geo_sketch.specs.Sketches.{Drawing, IsDrawn, IsPosed};
@@ -11,6 +11,7 @@ ghost use Rattle.geo_sketch.specs.declared.elements.Setting.{Setting as Values};
 ghost use Rattle.geo_sketch.specs.declared.statements.Statement.{Statement as Claim};
 ghost use Rattle.geo_guess.specs.Conjectures.{conjectures_of, is_proper, IsWithout};
 ghost use Rattle.geo_guess.specs.Guesses.{IsGuessesOf, Noticed};
+ghost use Rattle.geo_guess.specs.Noticing.{AreInOrder, IsConjecture};
 
 /// A proper statement that holds everywhere is a conjecture unless it is plain.
 pub fn what_holds_is_listed()
@@ -20,6 +21,13 @@ pub fn what_holds_is_listed()
 /// Each conjecture is about live elements of fitting kinds, with strictly rising numbers.
 pub fn what_is_listed_is_posed()
     ensures { (es : List Entry) (s : Claim) → Contains (conjectures_of es) s → IsPosed es s }
+{}
+
+/// A statement is listed exactly where it is a conjecture, and the list has each once: by the
+/// greatest number that it names, then Null, Same, On, Triple, then by its numbers.
+pub fn what_is_listed()
+    ensures exactly { (drawing : Drawing) (s : Claim) → IsDrawn drawing → Contains (conjectures_of drawing.elements) s ↔ IsConjecture drawing.elements s }
+    ensures in_order { (drawing : Drawing) → IsDrawn drawing → AreInOrder (conjectures_of drawing.elements) }
 {}
 
 /// Exchanging all kinds keeps the conjectures, and so what is kept of them.

@@ -12,7 +12,8 @@ mod trials;
 
 pub use guesses::Guesses;
 pub use laws::{
-    changes_by_one_element, dual_keeps_conjectures, what_holds_is_listed, what_is_listed_is_posed,
+    changes_by_one_element, dual_keeps_conjectures, what_holds_is_listed, what_is_listed,
+    what_is_listed_is_posed,
 };
 
 #[cfg(test)]

@@ -2,17 +2,15 @@
 
 ghost use Rattle.std.specs.Prelude.{◌≡◌, ℕ, ◌<◌, ◌≤◌, OnErr, OnOk, slice_index_or, unsigned_abs};
 ghost use Rattle.geo_triple.specs.Triple.{blend_of, cross_of, cut_of, zero_triple};
-ghost use Rattle.geo_sketch.specs.Samples.{sample_count, sample_value as value_at};
-ghost use Rattle.geo_sketch.specs.Sketches.{number_limit, Drawing};
+ghost use Rattle.geo_sketch.specs.Samples.{sample_value as value_at};
+ghost use Rattle.geo_sketch.specs.declared.limits.TheConstants.{SAMPLE_COUNT, NUMBER_LIMIT};
+ghost use Rattle.geo_sketch.specs.Sketches.{Drawing};
 ghost use Rattle.geo_sketch.specs.Triples.{triple_at};
 ghost use Rattle.geo_guess.specs.Conjectures.{IsWithout};
 ghost use Rattle.geo_guess.specs.Samples.{made_from, sample_in, AreLow, AreMade, AreSameBut, AreSamples, IsLow};
 
-use geo_sketch::{Def, Element, NoMemory, Sketch, find_by_number, sample_value};
+use geo_sketch::{Def, Element, NoMemory, SAMPLE_COUNT, Sketch, find_by_number, sample_value};
 use geo_triple::{Triple, blend, cross, cut};
-
-/// How many sample positions there are.
-pub(crate) const SAMPLE_COUNT: usize = 8;
 
 /// What is kept where there is no element.
 fn no_triples() -> [Triple; SAMPLE_COUNT]
@@ -28,7 +26,7 @@ pub(crate) fn triples_in(
     n: u32,
 ) -> [Triple; SAMPLE_COUNT]
     requires { (rest : Drawing) × IsWithout sketch.now rest n × AreSamples rest.elements samples.now }
-    ensures { (position : ℕ) → position < sample_count → slice_index_or result position zero_triple ≡ triple_at sketch.now.elements n (value_at position) }
+    ensures { (position : ℕ) → position < SAMPLE_COUNT → slice_index_or result position zero_triple ≡ triple_at sketch.now.elements n (value_at position) }
 {
     match find_by_number(sketch.elements(), n) {
         Some(element) => triples_of(samples, &element),
@@ -39,8 +37,8 @@ pub(crate) fn triples_in(
 /// The triples of an element, from those of the elements that its definition names.
 fn triples_of(samples: &[[Triple; SAMPLE_COUNT]], element: &Element) -> [Triple; SAMPLE_COUNT]
     requires low { AreLow samples.now }
-    requires number { element.now.number < number_limit }
-    ensures { AreMade samples.now element.now result sample_count }
+    requires number { element.now.number < NUMBER_LIMIT }
+    ensures { AreMade samples.now element.now result SAMPLE_COUNT }
 {
     let mut triples = no_triples();
     for position in 0..SAMPLE_COUNT {
@@ -52,8 +50,8 @@ fn triples_of(samples: &[[Triple; SAMPLE_COUNT]], element: &Element) -> [Triple;
 /// The triple of an element at one position.
 fn triple_by(samples: &[[Triple; SAMPLE_COUNT]], element: &Element, position: usize) -> Triple
     requires low { AreLow samples.now }
-    requires number { element.now.number < number_limit }
-    requires position { position < sample_count }
+    requires number { element.now.number < NUMBER_LIMIT }
+    requires position { position < SAMPLE_COUNT }
     ensures { result ≡ made_from samples.now element.now position }
 {
     let value = sample_value(position as u32, 2 * element.number);
@@ -112,7 +110,7 @@ pub(crate) fn low_cross(s: &Triple, t: &Triple) -> Triple
 /// What is kept for number n at a position.
 pub(crate) fn sample_of(samples: &[[Triple; SAMPLE_COUNT]], n: u32, position: usize) -> Triple
     requires low { AreLow samples.now }
-    requires position { position < sample_count }
+    requires position { position < SAMPLE_COUNT }
     ensures value { result ≡ sample_in samples.now n position }
     ensures low { IsLow result }
 {
@@ -129,8 +127,8 @@ pub(crate) fn keep(
     triples: [Triple; SAMPLE_COUNT],
 ) -> Result<(), NoMemory>
     ensures others { AreSameBut n samples.old.items samples.new.items }
-    ensures here { OnOk result ((position : ℕ) → position < sample_count → sample_in samples.new.items n position ≡ slice_index_or triples position zero_triple) }
-    ensures unchanged { OnErr result ((position : ℕ) → position < sample_count → sample_in samples.new.items n position ≡ sample_in samples.old.items n position) }
+    ensures here { OnOk result ((position : ℕ) → position < SAMPLE_COUNT → sample_in samples.new.items n position ≡ slice_index_or triples position zero_triple) }
+    ensures unchanged { OnErr result ((position : ℕ) → position < SAMPLE_COUNT → sample_in samples.new.items n position ≡ sample_in samples.old.items n position) }
 {
     let place = n as usize;
     while samples.len() <= place {
@@ -145,7 +143,7 @@ pub(crate) fn keep(
 /// Keeps nothing for number n.
 pub(crate) fn let_go(samples: &mut Vec<[Triple; SAMPLE_COUNT]>, n: u32)
     ensures others { AreSameBut n samples.old.items samples.new.items }
-    ensures here { (position : ℕ) → position < sample_count → sample_in samples.new.items n position ≡ zero_triple }
+    ensures here { (position : ℕ) → position < SAMPLE_COUNT → sample_in samples.new.items n position ≡ zero_triple }
 {
     if let Some(triples) = samples.get_mut(n as usize) {
         *triples = no_triples();

@@ -5,9 +5,8 @@ ghost use Rattle.geo_sketch.specs.Drops.{speaks_of};
 ghost use Rattle.geo_guess.specs.Conjectures.{is_conjecture};
 ghost use Rattle.geo_guess.specs.Samples.{AreLow, AreSamples};
 
-use crate::samples::SAMPLE_COUNT;
 use crate::trials::is_guessed;
-use geo_sketch::{Sketch, Statement};
+use geo_sketch::{SAMPLE_COUNT, Sketch, Statement};
 use geo_triple::Triple;
 use rayon::prelude::*;
 use std::alloc::{AllocError, Global};

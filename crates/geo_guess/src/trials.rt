@@ -2,16 +2,14 @@
 
 ghost use Rattle.std.specs.Prelude.{◌≡◌, ◌<◌, ◌||◌, ◌∷◌, [], List};
 ghost use Rattle.geo_triple.specs.Triple.{cross_of, determinant_of, dot_of};
-ghost use Rattle.geo_sketch.specs.Lookups.{kind_at};
-ghost use Rattle.geo_sketch.specs.Posing.{is_posed, of_one_kind, of_two_kinds};
-ghost use Rattle.geo_sketch.specs.Samples.{sample_count};
+ghost use Rattle.geo_sketch.specs.declared.limits.TheConstants.{SAMPLE_COUNT};
 ghost use Rattle.geo_sketch.specs.declared.elements.Element.{Element as Entry};
-ghost use Rattle.geo_sketch.specs.Statements.{coordinates};
-ghost use Rattle.geo_guess.specs.Conjectures.{are_together, are_zero, holds_at_samples, is_conjecture, is_nowhere, is_proper, is_zero_at};
+ghost use Rattle.geo_triple.specs.Zero.{coordinates, are_zero};
+ghost use Rattle.geo_guess.specs.Conjectures.{are_together, holds_at_samples, is_conjecture, is_nowhere, is_proper, is_zero_at};
 ghost use Rattle.geo_guess.specs.Samples.{AreLow, AreSamples, IsLow};
 
-use crate::samples::{SAMPLE_COUNT, low_cross, sample_of};
-use geo_sketch::{Element, Kind, Sketch, Statement, find_by_number};
+use crate::samples::{low_cross, sample_of};
+use geo_sketch::{SAMPLE_COUNT, Sketch, Statement};
 use geo_triple::{Triple, det, dot};
 
 /// Whether the statement is a conjecture of the sketch. Most candidates fail at the first
@@ -22,50 +20,9 @@ pub(crate) fn is_guessed(sketch: &Sketch, samples: &[[Triple; SAMPLE_COUNT]], s:
     ensures { result ≡ is_conjecture sketch.now.elements s.now }
 {
     holds_at_samples(samples, s)
-        && is_posed(sketch.elements(), s)
+        && s.is_posed(sketch.elements())
         && is_proper(samples, s)
         && !sketch.is_plain(s)
-}
-
-/// Whether the numbers rise strictly and are those of live elements of fitting kinds.
-fn is_posed(elements: &[Element], s: &Statement) -> bool
-    ensures { result ≡ is_posed elements.now s.now }
-{
-    match s {
-        Statement::Null(n) => find_by_number(elements, *n).is_some(),
-        Statement::Same(n, m) => *n < *m && are_of_one_kind(elements, *n, *m),
-        Statement::On(n, m) => *n < *m && are_of_two_kinds(elements, *n, *m),
-        Statement::Triple(n, m, k) => {
-            *n < *m
-                && *m < *k
-                && are_of_one_kind(elements, *n, *m)
-                && are_of_one_kind(elements, *n, *k)
-        }
-    }
-}
-
-fn kind_of(elements: &[Element], n: u32) -> Option<Kind>
-    ensures { result ≡ kind_at elements.now n }
-{
-    find_by_number(elements, n).map(|element| element.kind)
-}
-
-fn are_of_one_kind(elements: &[Element], n: u32, m: u32) -> bool
-    ensures { result ≡ of_one_kind (kind_at elements.now n) (kind_at elements.now m) }
-{
-    match (kind_of(elements, n), kind_of(elements, m)) {
-        (Some(Kind::Point), Some(Kind::Point)) | (Some(Kind::Line), Some(Kind::Line)) => true,
-        _ => false,
-    }
-}
-
-fn are_of_two_kinds(elements: &[Element], n: u32, m: u32) -> bool
-    ensures { result ≡ of_two_kinds (kind_at elements.now n) (kind_at elements.now m) }
-{
-    match (kind_of(elements, n), kind_of(elements, m)) {
-        (Some(Kind::Point), Some(Kind::Line)) | (Some(Kind::Line), Some(Kind::Point)) => true,
-        _ => false,
-    }
 }
 
 /// Whether no element that is named is zero at all sample positions, and no two of three are the
@@ -131,11 +88,11 @@ fn holds_at_samples(samples: &[[Triple; SAMPLE_COUNT]], s: &Statement) -> bool
 /// Whether all parts of the statement are 0 at a sample position.
 fn is_zero_at(samples: &[[Triple; SAMPLE_COUNT]], s: &Statement, position: usize) -> bool
     requires low { AreLow samples.now }
-    requires position { position < sample_count }
+    requires position { position < SAMPLE_COUNT }
     ensures { (es : List Entry) → AreSamples es samples.now → result ≡ is_zero_at es s.now position }
 {
     match s {
-        Statement::Null(n) => is_zero(&sample_of(samples, *n, position)),
+        Statement::Null(n) => sample_of(samples, *n, position).is_zero(),
         Statement::Same(n, m) => are_same(
             &sample_of(samples, *n, position),
             &sample_of(samples, *m, position),
@@ -152,18 +109,12 @@ fn is_zero_at(samples: &[[Triple; SAMPLE_COUNT]], s: &Statement, position: usize
     }
 }
 
-fn is_zero(t: &Triple) -> bool
-    ensures { result ≡ are_zero (coordinates t.now) }
-{
-    t.a == 0 && t.b == 0 && t.c == 0
-}
-
 fn are_same(s: &Triple, t: &Triple) -> bool
     requires first { IsLow s.now }
     requires second { IsLow t.now }
     ensures { result ≡ are_zero (coordinates (cross_of s.now t.now)) }
 {
-    is_zero(&low_cross(s, t))
+    low_cross(s, t).is_zero()
 }
 
 fn is_on(s: &Triple, t: &Triple) -> bool

@@ -21,34 +21,35 @@ use Rattle.geo_sketch.proofs.ConstructionLaws.{at_named}
 use Rattle.geo_sketch.proofs.LiveElements.{related}
 use Rattle.geo_sketch.proofs.TableLaws.{place_within}
 use Rattle.geo_height.specs.declared.heights.Heights.{Heights}
-use Rattle.geo_height.specs.Capped.{statement_limit, within_limit, heights_within, from_one, from_both, capped_algebra, capped_cross, capped_dot, capped_largest, capped_statement}
+use Rattle.geo_height.specs.Capped.{within_limit, heights_within, from_one, from_both, capped_algebra, capped_cross, capped_dot, capped_largest, capped_statement}
+use Rattle.geo_triple.specs.declared.limits.TheConstants.{STATEMENT_LIMIT}
 use Rattle.geo_height.proofs.HeightLaws.{positive_made}
 use Rattle.geo_height.proofs.SumLaws.{ArePositive, cross-positive, largest-cut, largest-blend_left, largest-blend_right}
 
 -- ---- within the limit, and past it
-pub near : (h : ℕ) → h ≤ statement_limit → within_limit h ≡ Some h
-near h p = let test : nat_lt statement_limit h ≡ false = grind (arith, nat_tests) in rw test refl
+pub near : (h : ℕ) → h ≤ STATEMENT_LIMIT → within_limit h ≡ Some h
+near h p = let test : nat_lt STATEMENT_LIMIT h ≡ false = grind (arith, nat_tests) in rw test refl
 
-pub far : (h : ℕ) → statement_limit < h → within_limit h ≡ None
-far h p = let test : nat_lt statement_limit h ≡ true = grind (arith, nat_tests) in rw test refl
+pub far : (h : ℕ) → STATEMENT_LIMIT < h → within_limit h ≡ None
+far h p = let test : nat_lt STATEMENT_LIMIT h ≡ true = grind (arith, nat_tests) in rw test refl
 
-pub all_near : (g : Sizes) → largest_of g ≤ statement_limit → heights_within g ≡ Some record { a = g.a; b = g.b; c = g.c }
-all_near g p = let test : nat_lt statement_limit (largest_of g) ≡ false = grind (arith, nat_tests) in rw test refl
+pub all_near : (g : Sizes) → largest_of g ≤ STATEMENT_LIMIT → heights_within g ≡ Some record { a = g.a; b = g.b; c = g.c }
+all_near g p = let test : nat_lt STATEMENT_LIMIT (largest_of g) ≡ false = grind (arith, nat_tests) in rw test refl
 
-pub one_far : (g : Sizes) → statement_limit < largest_of g → heights_within g ≡ None
-one_far g p = let test : nat_lt statement_limit (largest_of g) ≡ true = grind (arith, nat_tests) in rw test refl
+pub one_far : (g : Sizes) → STATEMENT_LIMIT < largest_of g → heights_within g ≡ None
+one_far g p = let test : nat_lt STATEMENT_LIMIT (largest_of g) ≡ true = grind (arith, nat_tests) in rw test refl
 
 -- what is not kept is past it, and what is kept is the number
-past : (h : ℕ) → None ≡ within_limit h → statement_limit < h
+past : (h : ℕ) → None ≡ within_limit h → STATEMENT_LIMIT < h
 past h q =
-    elim (cases_lt statement_limit h) [
+    elim (cases_lt STATEMENT_LIMIT h) [
       | inl large ↦ large
       | inr low ↦ absurd (let some = near h low in cc)
     ]
 
-same : (h x : ℕ) → Some x ≡ within_limit h → (x ≡ h) × (h ≤ statement_limit)
+same : (h x : ℕ) → Some x ≡ within_limit h → (x ≡ h) × (h ≤ STATEMENT_LIMIT)
 same h x q =
-    elim (cases_lt statement_limit h) [
+    elim (cases_lt STATEMENT_LIMIT h) [
       | inl large ↦ absurd (let none = far h large in cc)
       | inr low ↦ (let some = near h low in cc, low)
     ]
@@ -70,21 +71,21 @@ gathered g x y z p q r =
     let first = a.0 in
     let second = b.0 in
     let third = c.0 in
-    (λ i. Some record { a = first i; b = second i; c = third i }) ∙ sym (all_near g (largest_bound g statement_limit a.1 b.1 c.1))
+    (λ i. Some record { a = first i; b = second i; c = third i }) ∙ sym (all_near g (largest_bound g STATEMENT_LIMIT a.1 b.1 c.1))
 
 -- ---- what is made of what is kept
 one_kept : (f : Sizes → Sizes) (g : Sizes) → largest_of g ≤ largest_of (f g) → from_one (heights_within g) f ≡ heights_within (f g)
 one_kept f g p =
-    elim (cases_lt statement_limit (largest_of g)) [
+    elim (cases_lt STATEMENT_LIMIT (largest_of g)) [
       | inl past ↦ rw (one_far g past, one_far (f g) (omega arith)) refl
       | inr within ↦ rw (all_near g within) refl
     ]
 
-both_kept : {X : Type 0} (f : Sizes → Sizes → Option X) (g h : Sizes) → (statement_limit < largest_of g → f g h ≡ None) → (statement_limit < largest_of h → f g h ≡ None) → from_both (heights_within g) (heights_within h) f ≡ f g h
+both_kept : {X : Type 0} (f : Sizes → Sizes → Option X) (g h : Sizes) → (STATEMENT_LIMIT < largest_of g → f g h ≡ None) → (STATEMENT_LIMIT < largest_of h → f g h ≡ None) → from_both (heights_within g) (heights_within h) f ≡ f g h
 both_kept f g h p q =
-    elim (cases_lt statement_limit (largest_of g)) [
+    elim (cases_lt STATEMENT_LIMIT (largest_of g)) [
       | inl past ↦ rw (one_far g past, p past) refl
-      | inr within ↦ elim (cases_lt statement_limit (largest_of h)) [
+      | inr within ↦ elim (cases_lt STATEMENT_LIMIT (largest_of h)) [
         | inl past ↦ rw (all_near g within, one_far h past, q past) refl
         | inr low ↦ rw (all_near g within, all_near h low) refl
       ]
@@ -92,7 +93,7 @@ both_kept f g h p q =
 
 largest_kept : (g : Sizes) → capped_largest (heights_within g) ≡ within_limit (largest_of g)
 largest_kept g =
-    elim (cases_lt statement_limit (largest_of g)) [
+    elim (cases_lt STATEMENT_LIMIT (largest_of g)) [
       | inl past ↦ rw (one_far g past, far (largest_of g) past) refl
       | inr within ↦ rw (all_near g within, near (largest_of g) within) refl
     ]

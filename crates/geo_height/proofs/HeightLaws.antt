@@ -17,9 +17,11 @@ use Rattle.geo_sketch.specs.Dependence.{depends_on}
 use Rattle.geo_sketch.specs.Heights.{heights_algebra, heights_at, height_of, statement_height}
 use Rattle.geo_sketch.specs.Lookups.{numbered, IsLive}
 use Rattle.geo_sketch.specs.Needs.{is_needed, needs, stated, AtStated}
-use Rattle.geo_sketch.specs.PlainHeights.{plain_height_algebra, plain_height_of, threes, height_limit}
+use Rattle.geo_sketch.specs.PlainHeights.{plain_height_algebra, plain_height_of, threes}
+use Rattle.geo_sketch.specs.declared.limits.TheConstants.{HEIGHT_LIMIT}
 use Rattle.geo_sketch.specs.Sketches.{Drawing, IsDrawn, IsDefined}
-use Rattle.geo_sketch.specs.Statements.{coordinates, parts_at}
+use Rattle.geo_sketch.specs.Statements.{parts_at}
+use Rattle.geo_triple.specs.Zero.{coordinates}
 use Rattle.geo_sketch.specs.Triples.{triple_algebra, triple_at}
 use Rattle.geo_sketch.proofs.ConstructionLaws.{at_named}
 use Rattle.geo_sketch.proofs.DependenceLaws.{by_either, reaches}
@@ -27,7 +29,7 @@ use Rattle.geo_sketch.proofs.LiveElements.{related, live_step}
 use Rattle.geo_sketch.proofs.PlainHeightLaws.{low}
 use Rattle.geo_sketch.proofs.SketchLaws.{constructed, defined}
 use Rattle.geo_height.specs.Bounds.{sums_by, statement_sum, IsWithin, AreAtMost}
-use Rattle.geo_height.specs.Capped.{statement_limit}
+use Rattle.geo_triple.specs.declared.limits.TheConstants.{STATEMENT_LIMIT}
 use Rattle.geo_height.proofs.SumLaws.{ArePositive, cut-positive, blend-positive, cross-positive, largest-cut, largest-blend_left, largest-blend_right, cut_heights-grows, cut_sums-fit, cut_heights-plain, largest-determinant, minors-below}
 
 -- ---- heights do not fall where a magnitude grows
@@ -187,10 +189,10 @@ module _ (drawing : Drawing) (drawn : IsDrawn drawing) where
       related drawing.elements (constructed drawing drawn) (heights_algebra m) (plain_height_algebra m) (λ n g h. largest_of g ≤ h) (λ n q. largest_bound (of_sizes 0 0 0) 0 (omega arith) (omega arith) (omega arith))
       (λ n e q s. plain_made e.def drawing.elements e.number n e.kind m (computed (heights_algebra m) drawing.elements) (computed (plain_height_algebra m) drawing.elements) (defined drawing drawn n e q) (at_named _ (λ k. height_of drawing.elements k m ≤ plain_height_of drawing.elements k m) e.def (λ k p. p.2) s))
 
-  lowest : (n : ℕ) → height_of drawing.elements n threes ≤ height_limit
+  lowest : (n : ℕ) → height_of drawing.elements n threes ≤ HEIGHT_LIMIT
   lowest n = le_trans (plain_below threes n) (low drawing.elements drawing.settings drawing.claims drawn n)
 
-  pub statement_low : (s : Statement) → statement_height drawing.elements s threes ≤ statement_limit
+  pub statement_low : (s : Statement) → statement_height drawing.elements s threes ≤ STATEMENT_LIMIT
   statement_low (statement.Null n) = omega (arith, lowest n)
   statement_low (statement.Same n k) = omega (arith, cross_sums-plain _ _ _ _ (lowest n) (lowest k))
   statement_low (statement.On n k) = omega (arith, dot_sum-plain _ _ _ _ (lowest n) (lowest k))

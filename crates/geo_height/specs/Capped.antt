@@ -1,5 +1,6 @@
 -- Heights as far as they are within the limit of 128 bit arithmetic.
-use Rattle.std.specs.Prelude.{ℕ, ◌^◌, max, nat_lt, if◌then◌else◌, unsigned_abs, Option, None, Some}
+use Rattle.std.specs.Prelude.{ℕ, max, nat_lt, if◌then◌else◌, unsigned_abs, Option, None, Some}
+use Rattle.geo_triple.specs.declared.limits.TheConstants.{STATEMENT_LIMIT}
 use Rattle.geo_triple.specs.Sums.{Sizes, of_sizes, largest_of, cross_sums, dot_sum}
 use Rattle.geo_sketch.specs.declared.statements.Statement.{Statement}
 use Rattle.geo_sketch.specs.declared.statements.Statement.TheVariants as statement
@@ -8,17 +9,13 @@ use Rattle.geo_sketch.specs.Constructions.{Algebra}
 use Rattle.geo_sketch.specs.Heights.{cut_heights, blend_heights}
 use Rattle.geo_height.specs.declared.heights.Heights.{Heights}
 
--- the greatest height that is given
-abbrev pub statement_limit : ℕ
-statement_limit = 2 ^ 126
-
 -- the height, or None where it is above the limit
 abbrev pub within_limit : ℕ → Option ℕ
-within_limit h = if nat_lt statement_limit h then None else Some h
+within_limit h = if nat_lt STATEMENT_LIMIT h then None else Some h
 
 -- the heights, or None where one of them is above the limit
 abbrev pub heights_within : Sizes → Option Heights
-heights_within g = if nat_lt statement_limit (largest_of g) then None else Some record { a = g.a; b = g.b; c = g.c }
+heights_within g = if nat_lt STATEMENT_LIMIT (largest_of g) then None else Some record { a = g.a; b = g.b; c = g.c }
 
 abbrev pub sizes_in : Heights → Sizes
 sizes_in h = of_sizes h.a h.b h.c

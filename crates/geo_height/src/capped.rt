@@ -3,8 +3,7 @@
 ghost use Rattle.std.specs.Prelude.{◌≡◌, ◌+◌, ◌*◌};
 ghost use Rattle.geo_height.specs.Capped.{within_limit};
 
-/// The greatest height that is given: up to it no 128 bit operation overflows.
-const STATEMENT_LIMIT: u128 = 1 << 126;
+use geo_triple::STATEMENT_LIMIT;
 
 /// The height, or None where it is above the limit.
 pub(crate) fn keep(height: u128) -> Option<u128>

@@ -10,10 +10,11 @@ ghost use Rattle.geo_sketch.specs.Lookups.{numbered, IsLive};
 ghost use Rattle.geo_sketch.specs.Needs.{needs, AtStated};
 ghost use Rattle.geo_sketch.specs.PlainHeights.{plain_height_of, threes};
 ghost use Rattle.geo_sketch.specs.Sketches.{Drawing, IsDrawn};
-ghost use Rattle.geo_sketch.specs.Statements.{coordinates, parts_at};
+ghost use Rattle.geo_sketch.specs.Statements.{parts_at};
+ghost use Rattle.geo_triple.specs.Zero.{coordinates};
 ghost use Rattle.geo_sketch.specs.Triples.{triple_at};
 ghost use Rattle.geo_height.specs.Bounds.{statement_sum, sums_by, AreAtMost, IsWithin};
-ghost use Rattle.geo_height.specs.Capped.{statement_limit};
+ghost use Rattle.geo_triple.specs.declared.limits.TheConstants.{STATEMENT_LIMIT};
 
 /// Each coordinate of an element is in absolute value at most its own height, and so at
 /// most the element's height, and each part of a statement is at most the statement's
@@ -58,5 +59,5 @@ pub fn heights_are_at_most_plain()
 /// Where every magnitude is 3, the height of a statement is within the limit, since no
 /// element is tall.
 pub fn heights_at_threes_are_low()
-    ensures { (drawing : Drawing) (s : Posed) → IsDrawn drawing → statement_height drawing.elements s threes ≤ statement_limit }
+    ensures { (drawing : Drawing) (s : Posed) → IsDrawn drawing → statement_height drawing.elements s threes ≤ STATEMENT_LIMIT }
 {}

@@ -11,11 +11,13 @@ use Rattle.geo_sketch.specs.declared.statements.Statement.{Statement}
 use Rattle.geo_sketch.specs.declared.verdicts.Verdict.{Verdict}
 use Rattle.geo_sketch.specs.declared.verdicts.Verdict.TheVariants.{Proved, False, Unsettled}
 use Rattle.geo_sketch.specs.PlainStatements.{is_plain, IsPlain}
-use Rattle.geo_sketch.specs.Samples.{sample_count, sample_value}
+use Rattle.geo_sketch.specs.Samples.{sample_value}
+use Rattle.geo_sketch.specs.declared.limits.TheConstants.{SAMPLE_COUNT}
 use Rattle.geo_sketch.specs.Sketches.{Drawing, ArePosed, IsDrawn, IsPosed}
-use Rattle.geo_sketch.specs.Statements.{AreZero, Holds, parts_at}
+use Rattle.geo_sketch.specs.Statements.{Holds, parts_at}
+use Rattle.geo_triple.specs.Zero.{AreZero, are_zero}
 use Rattle.geo_degree.specs.Grids.{axes_of, values_on}
-use Rattle.geo_degree.specs.VerdictFunction.{are_zero, first_failing, verdict_of}
+use Rattle.geo_degree.specs.VerdictFunction.{first_failing, verdict_of}
 use Rattle.geo_degree.specs.Verdicts.{question_of, statement_parts, IsStatementVerdict}
 use Rattle.geo_settle.specs.Findings.{IsSampleFinding}
 use Rattle.geo_infer.specs.declared.rules.SaidStep.{SaidStep}
@@ -28,14 +30,14 @@ use Rattle.geo_infer.proofs.PosedShapes.{shape_posed}
 use Rattle.geo_infer.proofs.SampleLaws.{IsFirstWithout, decides_zero, first_is_first}
 
 -- ---- not null somewhere
-not_null : (es : List Element) (side : Statement) (o : Option ℕ) → IsFirstWithout (λ s. AreZero (parts_at es side (sample_value s))) sample_count o → Decides (is_some o) (IsNotNullSomewhere es side)
+not_null : (es : List Element) (side : Statement) (o : Option ℕ) → IsFirstWithout (λ s. AreZero (parts_at es side (sample_value s))) SAMPLE_COUNT o → Decides (is_some o) (IsNotNullSomewhere es side)
 not_null es side None h = (λ t. absurd cc, λ g. absurd (g.2 (h g.0 g.1)))
 not_null es side (Some s) h = (λ t. (s, h.0, h.1), λ g. refl)
 
 pub decides_not_null : (es : List Element) (side : Statement) → Decides (is_not_null_somewhere es side) (IsNotNullSomewhere es side)
 decides_not_null es side =
     let test = λ (s : ℕ). are_zero (parts_at es side (sample_value s)) in
-    not_null es side (first_failing test sample_count) (first_is_first (λ s. AreZero (parts_at es side (sample_value s))) test (λ s. decides_zero (parts_at es side (sample_value s))) sample_count)
+    not_null es side (first_failing test SAMPLE_COUNT) (first_is_first (λ s. AreZero (parts_at es side (sample_value s))) test (λ s. decides_zero (parts_at es side (sample_value s))) SAMPLE_COUNT)
 
 none_found : (b : Bool) → (b ≡ true → ⊥) → false ≡ b
 none_found true f = absurd (f refl)

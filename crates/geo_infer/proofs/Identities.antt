@@ -5,7 +5,7 @@ use Rattle.geo_algebra.proofs.Ring.{ring, reads}
 use Rattle.geo_triple.specs.declared.Triple.{Triple}
 use Rattle.geo_triple.specs.Triple.{cross_of, dot_of, determinant_of}
 use Rattle.geo_triple.proofs.Triples.{dot-cross_first}
-use Rattle.geo_sketch.specs.Statements.{AreZero, coordinates}
+use Rattle.geo_triple.specs.Zero.{AreZero, coordinates}
 use Rattle.geo_infer.specs.Products.{AreZeroProducts, AreZeroTimes}
 
 three_zeros : (x u v w f g h : ℤ) → x ≡ u *ℤ f +ℤ v *ℤ g +ℤ w *ℤ h → u ≡ pos 0 → v ≡ pos 0 → w ≡ pos 0 → x ≡ pos 0

@@ -7,7 +7,8 @@ use Rattle.geo_law.specs.Coefficients.{value_at, IsZero}
 use Rattle.geo_law.proofs.CoefficientLaws.{value_of_zeros}
 use Rattle.geo_sketch.specs.declared.elements.Element.{Element}
 use Rattle.geo_sketch.specs.declared.statements.Statement.{Statement}
-use Rattle.geo_sketch.specs.Statements.{AreZero, parts_at}
+use Rattle.geo_sketch.specs.Statements.{parts_at}
+use Rattle.geo_triple.specs.Zero.{AreZero}
 use Rattle.geo_degree.specs.Polynomials.{assignment_on, parts_along, values_at}
 use Rattle.geo_infer.proofs.RuleLaws.{zero_or_not}
 

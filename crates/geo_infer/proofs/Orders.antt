@@ -8,7 +8,8 @@ use Rattle.geo_sketch.specs.declared.elements.Element.{Element}
 use Rattle.geo_sketch.specs.declared.statements.Statement.{Statement}
 use Rattle.geo_sketch.specs.declared.statements.Statement.TheVariants as statement
 use Rattle.geo_sketch.specs.Claims.{least, middle, greatest}
-use Rattle.geo_sketch.specs.Statements.{AreZero, coordinates, parts_at}
+use Rattle.geo_sketch.specs.Statements.{parts_at}
+use Rattle.geo_triple.specs.Zero.{AreZero, coordinates}
 use Rattle.geo_sketch.specs.Triples.{triple_at}
 use Rattle.geo_infer.specs.Shapes.{rising}
 

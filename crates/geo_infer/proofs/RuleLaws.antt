@@ -6,7 +6,8 @@ use Rattle.geo_triple.specs.declared.Triple.{Triple}
 use Rattle.geo_sketch.specs.declared.elements.Element.{Element}
 use Rattle.geo_sketch.specs.declared.statements.Statement.{Statement}
 use Rattle.geo_sketch.specs.declared.statements.Statement.TheVariants as statement
-use Rattle.geo_sketch.specs.Statements.{AreZero, parts_at}
+use Rattle.geo_sketch.specs.Statements.{parts_at}
+use Rattle.geo_triple.specs.Zero.{AreZero}
 use Rattle.geo_sketch.specs.Triples.{triple_at}
 use Rattle.geo_infer.specs.declared.rules.Rule.{Rule}
 use Rattle.geo_infer.specs.declared.rules.Rule.TheVariants.{Span, Extend, Lie, Unique, Move}

@@ -3,8 +3,8 @@ use Rattle.std.proofs.Common.{sym, subst, refl, inl, inr, ℕ, zero, suc, ◌<�
 use Rattle.std.specs.Bool.{Decides}
 use Rattle.std.proofs.lemmas.Bool.{and_from, and_parts, cases_eq}
 use Rattle.std.proofs.lemmas.Bool.Decides.{Decides-int_eq}
-use Rattle.geo_sketch.specs.Statements.{AreZero}
-use Rattle.geo_degree.specs.VerdictFunction.{are_zero, first_failing, found_or}
+use Rattle.geo_triple.specs.Zero.{AreZero, are_zero}
+use Rattle.geo_degree.specs.VerdictFunction.{first_failing, found_or}
 
 pub decides_zero : (zs : List ℤ) → Decides (are_zero zs) (AreZero zs)
 decides_zero [] = (λ t. tt, λ h. refl)

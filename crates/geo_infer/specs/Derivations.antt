@@ -8,9 +8,11 @@ use Rattle.geo_sketch.specs.declared.statements.Statement.{Statement}
 use Rattle.geo_sketch.specs.declared.verdicts.Verdict.{Verdict}
 use Rattle.geo_sketch.specs.declared.verdicts.Verdict.TheVariants.{Proved, False, Unsettled}
 use Rattle.geo_sketch.specs.PlainStatements.{is_plain, IsPlain}
-use Rattle.geo_sketch.specs.Samples.{sample_count, sample_value}
-use Rattle.geo_sketch.specs.Statements.{AreZero, parts_at}
-use Rattle.geo_degree.specs.VerdictFunction.{are_zero, first_failing, verdict_of}
+use Rattle.geo_sketch.specs.Samples.{sample_value}
+use Rattle.geo_sketch.specs.declared.limits.TheConstants.{SAMPLE_COUNT}
+use Rattle.geo_sketch.specs.Statements.{parts_at}
+use Rattle.geo_triple.specs.Zero.{AreZero, are_zero}
+use Rattle.geo_degree.specs.VerdictFunction.{first_failing, verdict_of}
 use Rattle.geo_degree.specs.Verdicts.{question_of, IsStatementVerdict}
 use Rattle.geo_infer.specs.declared.rules.SaidStep.{SaidStep}
 use Rattle.geo_infer.specs.declared.shapes.Shape.{Shape}
@@ -19,7 +21,7 @@ use Rattle.geo_infer.specs.Words.{step_of}
 
 -- at one of the sample positions a part is not 0
 abbrev pub IsNotNullSomewhere : List Element → Statement → Type 0
-IsNotNullSomewhere es side = (s : ℕ) × (s < sample_count) × (¬ AreZero (parts_at es side (sample_value s)))
+IsNotNullSomewhere es side = (s : ℕ) × (s < SAMPLE_COUNT) × (¬ AreZero (parts_at es side (sample_value s)))
 
 -- it holds by construction, or its verdict is that it is proved
 abbrev pub IsKnown : List Element → Statement → Type 0
@@ -49,7 +51,7 @@ are_known es (s ∷ ss) = is_known es s && are_known es ss
 
 -- there is a first sample position at which not all parts are 0
 abbrev pub is_not_null_somewhere : List Element → Statement → Bool
-is_not_null_somewhere es side = is_some (first_failing (λ s. are_zero (parts_at es side (sample_value s))) sample_count)
+is_not_null_somewhere es side = is_some (first_failing (λ s. are_zero (parts_at es side (sample_value s))) SAMPLE_COUNT)
 
 -- ---- what is answered
 -- the conclusion; or unproved, where a premise is not known; or else degenerate, where the side

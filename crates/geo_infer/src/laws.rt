@@ -4,7 +4,8 @@ ghost use Rattle.std.specs.Prelude.{◌≡◌, ◌↔◌, ℕ, ℤ, List, Ok, tr
 ghost use Rattle.geo_sketch.specs.declared.elements.Element.{Element as Entry};
 ghost use Rattle.geo_sketch.specs.declared.statements.Statement.{Statement as Posed};
 ghost use Rattle.geo_sketch.specs.Sketches.{Drawing, IsDrawn, IsPosed};
-ghost use Rattle.geo_sketch.specs.Statements.{AreZero, Holds, parts_at};
+ghost use Rattle.geo_sketch.specs.Statements.{Holds, parts_at};
+ghost use Rattle.geo_triple.specs.Zero.{AreZero};
 ghost use Rattle.geo_infer.specs.declared.rules.Rule.{Rule as Given};
 ghost use Rattle.geo_infer.specs.declared.rules.SaidStep.{SaidStep as Step};
 ghost use Rattle.geo_infer.specs.declared.shapes.Shape.{Shape as Asked};

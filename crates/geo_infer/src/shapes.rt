@@ -1,13 +1,12 @@
 //! What a step asks for in a sketch: its premises, its side condition and its conclusion.
 
 ghost use Rattle.std.specs.Prelude.{◌≡◌, IfOk};
-ghost use Rattle.geo_sketch.specs.Lookups.{find_named};
 ghost use Rattle.geo_sketch.specs.Sketches.{other};
 ghost use Rattle.geo_infer.specs.Shapes.{IsPosedShape, fits, fourth_kind, repeats, rising_on, rising_same, rising_triple, shape_by, shape_of, shape_unless, third_kind};
 
 use crate::premises::{More, Premises};
 use crate::rules::{Rule, SaidStep};
-use geo_sketch::{Element, Kind, Name, Refusal, Sketch, Statement};
+use geo_sketch::{Element, Kind, Refusal, Sketch, Statement, find_by_name};
 
 /// The premises, the side condition, which must be not null somewhere, and the conclusion, all
 /// with rising numbers.
@@ -35,17 +34,6 @@ pub fn shape_of(sketch: &Sketch, said: &SaidStep) -> Result<Shape, Refusal>
         (Some(p), Some(q), Some(r), Some(s)) => make_shape(said.rule, &p, &q, &r, &s),
         _ => Err(Refusal::Unknown),
     }
-}
-
-fn find_by_name(elements: &[Element], name: &Name) -> Option<Element>
-    ensures { result ≡ find_named elements.now name.now }
-{
-    for element in elements {
-        if element.name.is(name) {
-            return Some(*element);
-        }
-    }
-    None
 }
 
 /// The shape for four elements; for `Move` the fourth is the third.

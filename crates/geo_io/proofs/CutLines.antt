@@ -1,11 +1,11 @@
 -- Lines that are cut to a limit, and the bytes that these need.
-use Rattle.std.proofs.Common.{◌≡◌, ◌∙◌, sym, ap, subst, refl, ℕ, ◌+◌, ◌-◌, ◌<◌, ◌≤◌, ◌==◌, Bool, true, false, cond, List, [], ◌∷◌, ◌++◌, length, take, drop, map, slice_index, Option, None, Some, inl, inr, arith, append_assoc}
+use Rattle.std.proofs.Common.{◌≡◌, ◌∙◌, sym, ap, refl, ℕ, ◌+◌, ◌-◌, ◌<◌, ◌≤◌, ◌==◌, Bool, true, false, cond, List, [], ◌∷◌, ◌++◌, length, take, drop, map, slice_index, Some, inl, inr, arith, append_assoc}
 use Rattle.std.specs.List.{position}
 use Rattle.std.proofs.lemmas.List.{append-nil, take-append-le, drop-append-le}
 use Rattle.std.proofs.lemmas.List.Splits.{length-slice_split}
 use Rattle.std.proofs.lemmas.Bool.{cases_lt}
 use Rattle.std.proofs.lemmas.Grind.{common_steps}
-use Rattle.geo_io.specs.Lines.{lines_of, lines_of_parts, without_carriage_return, has_line_feed, cut_lines_of}
+use Rattle.geo_io.specs.Lines.{lines_of_parts, without_carriage_return, has_line_feed, cut_lines_of}
 use Rattle.geo_io.proofs.Cuts.{slice_split-Some, lines_of_parts-ended}
 use Rattle.geo_io.proofs.LineFeeds.{is_line_feed, parts_of, before_first_part, parts_before, none_in_front, place_in_front, place_is_inside}
 

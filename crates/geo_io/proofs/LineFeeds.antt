@@ -1,11 +1,10 @@
 -- Bytes without a line feed, before other bytes.
-use Rattle.std.proofs.Common.{◌≡◌, ◌∙◌, sym, ap, subst, refl, ℕ, ◌+◌, ◌<◌, ◌==◌, Bool, true, false, cond, not, ◌||◌, List, [], ◌∷◌, ◌++◌, length, take, drop, Option, None, Some, arith, append_assoc}
-use Rattle.std.specs.List.{slice_split, position, onto_first, list_any}
+use Rattle.std.proofs.Common.{◌≡◌, ◌∙◌, sym, ap, refl, ℕ, ◌<◌, ◌==◌, Bool, true, false, cond, not, ◌||◌, List, [], ◌∷◌, ◌++◌, length, take, drop, None, Some, arith}
+use Rattle.std.specs.List.{slice_split, position, onto_first}
 use Rattle.std.proofs.lemmas.List.{take-append-drop}
 use Rattle.std.proofs.lemmas.List.Folds.{list_any-append, prefix_len-append}
 use Rattle.std.proofs.lemmas.Grind.{common_steps}
-use Rattle.geo_io.specs.Lines.{lines_of, has_line_feed}
-use Rattle.geo_io.proofs.Cuts.{slice_split-Some}
+use Rattle.geo_io.specs.Lines.{has_line_feed}
 
 abbrev pub is_line_feed : ℕ → Bool
 is_line_feed byte = byte == 10

@@ -1,14 +1,13 @@
 -- What the reads of one call leave.
-use Rattle.std.proofs.Common.{◌≡◌, ◌∙◌, sym, ap, subst, refl, inl, inr, ◌⊎◌, ℕ, ◌+◌, ◌^◌, ◌<◌, ◌≤◌, ◌↔◌, Bool, true, false, Option, List, [], ◌∷◌, ◌++◌, length, take, append_assoc, arith}
+use Rattle.std.proofs.Common.{◌≡◌, ◌∙◌, sym, ap, subst, refl, inl, inr, ◌⊎◌, ℕ, ◌+◌, ◌^◌, ◌≤◌, Bool, true, false, Option, List, [], ◌++◌, length, take, append_assoc, arith}
 use Rattle.std.specs.Io.KnownBytes.{Consumes, IsAtEnd}
 use Rattle.std.proofs.KnownBytes.{Consumes-nil, Consumes-trans}
 use Rattle.std.proofs.lemmas.List.{append-nil}
-use Rattle.std.proofs.lemmas.List.Folds.{list_any-append}
 use Rattle.std.proofs.lemmas.Grind.{common_steps}
 use Rattle.geo_io.specs.Lines.{has_line_feed, cut_lines_of}
 use Rattle.geo_io.specs.Pieces.{Takes as TakesBytes}
-use Rattle.geo_io.specs.Taking.{Taking, lines_left, CanFollow, IsRightOnEnd, IsAskedFor, Takes, GivesLine, GivesNone, StopsBetween, IsRead, IsKept}
-use Rattle.geo_io.proofs.LineFeeds.{is_line_feed, none_in_both, none_in_each, none_in_front}
+use Rattle.geo_io.specs.Taking.{Taking, lines_left, IsAskedFor, Takes, StopsBetween, IsRead, IsKept}
+use Rattle.geo_io.proofs.LineFeeds.{none_in_both, none_in_each}
 use Rattle.geo_io.proofs.CutLines.{kept_alike}
 
 -- what was taken so far in a call: whatever follows, the lines that are left are the same

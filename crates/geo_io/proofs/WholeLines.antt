@@ -1,13 +1,13 @@
 -- The lines that a line feed ended, by what a further line feed makes of some bytes.
 -- lemmas for other crates
-use Rattle.std.proofs.Common.{◌≡◌, ◌∙◌, sym, ap, refl, ℕ, ◌+◌, ◌-◌, ◌<◌, ◌==◌, Bool, true, false, cond, List, [], ◌∷◌, ◌++◌, length, take, map, append_assoc, arith}
+use Rattle.std.proofs.Common.{◌≡◌, ◌∙◌, sym, ap, refl, ℕ, ◌+◌, ◌-◌, ◌<◌, Bool, true, false, cond, List, [], ◌∷◌, ◌++◌, length, take, map, append_assoc, arith}
 use Rattle.std.specs.List.{onto_first, take-map}
 use Rattle.std.proofs.Math.Seq.{take-append_seam}
 use Rattle.std.proofs.lemmas.List.{append-nil}
 use Rattle.std.proofs.lemmas.List.Splits.{length-slice_split}
 use Rattle.std.proofs.lemmas.Grind.{common_steps}
 use Rattle.geo_io.specs.Lines.{lines_of, lines_of_parts, without_carriage_return, whole_lines_of, has_line_feed, cut_lines_of}
-use Rattle.geo_io.proofs.LineFeeds.{is_line_feed, parts_of, before_first_part, parts_before}
+use Rattle.geo_io.proofs.LineFeeds.{is_line_feed, parts_of, parts_before}
 
 onto_append : (x : ℕ) (parts more : List (List ℕ)) → 0 < length parts → onto_first x (parts ++ more) ≡ onto_first x parts ++ more
 onto_append x [] more some = absurd (omega (arith, some))

@@ -1,7 +1,8 @@
 -- Lines taken from a source, one after the other.
-use Rattle.std.specs.Prelude.{◌≡◌, ℕ, ◌+◌, ◌^◌, ◌≤◌, ◌⊎◌, Bool, true, false, Option, List, [], ◌∷◌, ◌++◌, length, take, ◌↔◌}
+use Rattle.std.specs.Prelude.{◌≡◌, ℕ, ◌+◌, ◌≤◌, ◌⊎◌, Bool, true, false, Option, List, [], ◌∷◌, ◌++◌, length, take, ◌↔◌}
 use Rattle.std.specs.Io.KnownBytes.{IsAtEnd}
 use Rattle.geo_io.specs.Lines.{cut_lines_of, has_line_feed}
+use Rattle.geo_io.specs.declared.limits.TheConstants.{INPUT_LIMIT}
 
 -- what takes the lines: how many bytes of each it gives, the bytes that it took and has not given as lines, of a long line
 -- no more than `limit + 1`, how many it took in all, and whether the source gave its end
@@ -35,7 +36,7 @@ pub record IsAskedFor (before : Taking) (bytes : List ℕ) : Type 0 where
   pub cut : bytes ≡ front ++ last
   pub one_read : length last ≤ 4096
   pub no_line : has_line_feed (before.held ++ front) ≡ false
-  pub few : before.taken + length front ≤ 2 ^ 24
+  pub few : before.taken + length front ≤ INPUT_LIMIT
   pub not_ended : before.ended ≡ false
 
 -- one call took these bytes

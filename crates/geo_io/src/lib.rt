@@ -7,6 +7,7 @@ mod calls;
 mod ends;
 mod front;
 mod in_memory;
+mod limits;
 mod line;
 mod lines;
 mod over_std;
@@ -16,6 +17,7 @@ mod whole;
 
 pub use ends::{Failed, LineEnd, NoMemory, SinkEnd};
 pub use in_memory::{MemSink, MemSource};
+pub use limits::INPUT_LIMIT;
 pub use line::split_line;
 pub use lines::Lines;
 pub use over_std::{ReadSource, WriteSink};

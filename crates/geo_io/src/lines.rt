@@ -5,16 +5,15 @@ ghost use Rattle.geo_io.specs.Faults.{Rose};
 ghost use Rattle.geo_io.specs.Lines.{has_line_feed};
 ghost use Rattle.geo_io.specs.Pieces.{Takes as TakesBytes};
 ghost use Rattle.geo_io.specs.Taking.{Taking, first_taking, lines_left, Takes, GivesLine, GivesNone, StopsBetween, IsRightOnEnd, IsRead, IsKept};
+ghost use Rattle.geo_io.specs.declared.limits.TheConstants.{INPUT_LIMIT};
 
 use super::buffer::Buffer;
 use super::ends::{LineEnd, NoMemory};
+use super::limits::INPUT_LIMIT;
 use super::line::{line_feed_at, strip_carriage_return};
 use super::streams::Source;
 use std::alloc::Global;
 use std::marker::Model;
-
-/// The most bytes that an input may have, 2^24.
-const MOST_BYTES: u64 = 16_777_216;
 
 /// Takes the lines of a source, each as soon as the source gave it whole.
 #[derive(Drop)]
@@ -70,13 +69,13 @@ impl Lines {
     /// that, cut to its first `limit` bytes. What follows the last line feed is a line too, as it
     /// stands. None comes at the end, and the source is not asked again then.
     pub fn next<S: Source>(&mut self, source: &mut S) -> Result<Option<Vec<u8>>, LineEnd>
-        requires room { self.old.taken ≤ 2 ^ 24 }
+        requires room { self.old.taken ≤ INPUT_LIMIT }
         ensures takes { TakesBytes (S.left source.old) (S.left source.new) (λ bytes. Takes self.old self.new bytes × MatchResult result (λ given. MatchOption given (GivesNone self.old self.new bytes) (λ line. GivesLine self.old self.new bytes line.items)) (λ end. end ≡ LineEnd.Failed → StopsBetween self.old bytes)) }
         ensures still { (self.old.ended ≡ true) ⊎ (has_line_feed self.old.held ≡ true) → source.new ≡ source.old }
         ensures end { IsRightOnEnd self.old (S.left source.old) → IsRightOnEnd self.new (S.left source.new) }
         ensures bounded { OnOk result (length self.new.held ≤ self.new.limit + 4097) }
         ensures shorter { IfOk result (λ given. IfSome given (λ _. length self.new.held + self.old.taken < length self.old.held + self.new.taken)) }
-        ensures too_long { IsErrOf result LineEnd.TooLong ↔ (2 ^ 24 < self.new.taken) }
+        ensures too_long { IsErrOf result LineEnd.TooLong ↔ (INPUT_LIMIT < self.new.taken) }
         ensures counts { S.fault_count source.old ≤ S.fault_count source.new }
         ensures failed { IsErrOf result LineEnd.Failed → Rose (S.fault_count source.old) (S.fault_count source.new) }
     {
@@ -143,12 +142,12 @@ impl Lines {
     /// Reads once. Of the line that was begun the first `limit + 1` bytes stay, since the last of
     /// these may be the carriage return that goes.
     fn ask<S: Source>(&mut self, source: &mut S) -> Result<(), LineEnd>
-        requires room { self.old.taken ≤ 2 ^ 24 }
+        requires room { self.old.taken ≤ INPUT_LIMIT }
         requires no_line { has_line_feed self.old.held ≡ false }
         requires not_ended { self.old.ended ≡ false }
         ensures read { TakesBytes (S.left source.old) (S.left source.new) (λ bytes. IsRead self.old self.new bytes × MatchResult result (λ _. IsKept self.old self.new bytes) (λ end. end ≡ LineEnd.Failed → bytes ≡ [])) }
         ensures end { self.new.ended ≡ true → IsAtEnd (S.left source.new) }
-        ensures too_long { IsErrOf result LineEnd.TooLong ↔ (2 ^ 24 < self.new.taken) }
+        ensures too_long { IsErrOf result LineEnd.TooLong ↔ (INPUT_LIMIT < self.new.taken) }
         ensures counts { S.fault_count source.old ≤ S.fault_count source.new }
         ensures failed { IsErrOf result LineEnd.Failed → Rose (S.fault_count source.old) (S.fault_count source.new) }
     {
@@ -162,7 +161,7 @@ impl Lines {
         let count = self.buffer.bytes().len();
         self.ended = count == 0;
         self.taken += count as u64;
-        if self.taken > MOST_BYTES {
+        if self.taken > INPUT_LIMIT {
             return Err(LineEnd::TooLong);
         }
         Ok(())

@@ -15,7 +15,8 @@ use Rattle.geo_degree.specs.declared.grids.Block.{Block}
 use Rattle.geo_degree.specs.declared.grids.Block.TheVariants.{One, Pair}
 use Rattle.geo_degree.specs.Blocks.{blocks_among, blocks_of, own_blocks}
 use Rattle.geo_degree.specs.Degrees.{statement_degree}
-use Rattle.geo_degree.specs.Grids.{axes_among, axes_of, axis, own_parameters, parameters_of}
+use Rattle.geo_degree.specs.Grids.{axes_among, axes_of, axis, parameters_of}
+use Rattle.geo_sketch.specs.Assignments.{own_parameters}
 use Rattle.geo_degree.proofs.PairLaws.{same_statement_degree}
 
 -- two axes whose parameters follow on one another make a Pair, and another axis is a One

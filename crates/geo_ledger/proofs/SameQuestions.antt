@@ -14,7 +14,8 @@ use Rattle.geo_sketch.specs.Lookups.{def_at}
 use Rattle.geo_sketch.specs.Dependence.{depends_on}
 use Rattle.geo_sketch.specs.Heights.{heights_algebra, heights_at, statement_height}
 use Rattle.geo_sketch.specs.Triples.{triple_algebra, triple_at}
-use Rattle.geo_sketch.specs.Statements.{coordinates, parts_at, AreZero}
+use Rattle.geo_sketch.specs.Statements.{parts_at}
+use Rattle.geo_triple.specs.Zero.{coordinates, AreZero}
 use Rattle.geo_sketch.proofs.StatementLaws.{at_stated, parts_same, statement_height_same}
 use Rattle.geo_sketch.proofs.TableLaws.{built}
 use Rattle.geo_sketch.proofs.ValueLaws.{agree_itself, computed_same}

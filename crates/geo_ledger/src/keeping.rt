@@ -6,6 +6,7 @@ ghost use Rattle.geo_sketch.specs.Sketches.{IsPosed};
 ghost use Rattle.geo_degree.specs.VerdictFunction.{verdict_of};
 ghost use Rattle.geo_degree.specs.Verdicts.{question_of};
 ghost use Rattle.geo_ledger.specs.Ledgers.{AreKept};
+ghost use Rattle.geo_board.specs.declared.limits.TheConstants.{WORKER_LIMIT};
 
 use crate::settling::settle_in;
 use geo_settle::Gate;
@@ -25,7 +26,7 @@ pub(crate) fn keep<R: Threads + Sync, G: Gate + Sync>(
     workers: u64,
     gate: &G,
 ) -> Result<usize, NoMemory>
-    requires workers { (0 < workers) × (workers ≤ 16) }
+    requires workers { (0 < workers) × (workers ≤ WORKER_LIMIT) }
     requires posed { IsPosed sketch.now.elements s.now }
     requires kept { AreKept sketch.now kept.old.entries }
     ensures kept { AreKept sketch.now kept.new.entries }

@@ -9,6 +9,7 @@ ghost use Rattle.geo_degree.specs.Verdicts.{question_of};
 ghost use Rattle.geo_guess.specs.Guesses.{IsGuessesOf};
 ghost use Rattle.geo_ledger.specs.Ledgers.{AreKept, ledger_of};
 ghost use Rattle.geo_ledger.specs.Lending.{StaysRight};
+ghost use Rattle.geo_board.specs.declared.limits.TheConstants.{WORKER_LIMIT};
 
 use crate::entry::Entry;
 use crate::keeping::{keep, verdict_at};
@@ -63,7 +64,7 @@ impl Ledger {
         workers: u64,
         gate: &G,
     ) -> Result<&[Entry], NoMemory>
-        requires workers { (0 < workers) × (workers ≤ 16) }
+        requires workers { (0 < workers) × (workers ≤ WORKER_LIMIT) }
         requires guesses { IsGuessesOf guesses.now sketch.now }
         requires kept { AreKept sketch.now self.old }
         ensures entries { IfOk result (λ entries. entries.now ≡ ledger_of sketch.now) }
@@ -105,7 +106,7 @@ impl Ledger {
         workers: u64,
         gate: &G,
     ) -> Result<&Verdict, NoMemory>
-        requires workers { (0 < workers) × (workers ≤ 16) }
+        requires workers { (0 < workers) × (workers ≤ WORKER_LIMIT) }
         requires posed { IsPosed sketch.now.elements s.now }
         requires kept { AreKept sketch.now self.old }
         ensures verdict { IfOk result (λ r. r.now ≡ verdict_of (question_of sketch.now.elements s.now)) }

@@ -1,18 +1,19 @@
 //! The entries of a ledger, one after the other.
 
 ghost use Rattle.std.specs.Prelude.{◌≡◌, ◌≤◌, ◌<◌, ◌++◌, ◌∷◌, [], true, false, All, IfOk, OnOk, filter, map, not};
-ghost use Rattle.geo_sketch.specs.Claims.{is_claimed, same_statement};
+ghost use Rattle.geo_sketch.specs.Claims.{is_claimed};
 ghost use Rattle.geo_sketch.specs.Sketches.{IsPosed};
 ghost use Rattle.geo_guess.specs.Conjectures.{conjectures_of};
 ghost use Rattle.geo_guess.specs.Guesses.{IsGuessesOf};
 ghost use Rattle.geo_ledger.specs.Ledgers.{entry_in, further_claims, AreKept};
+ghost use Rattle.geo_board.specs.declared.limits.TheConstants.{WORKER_LIMIT};
 
 use crate::copies::copy_verdict;
 use crate::entry::Entry;
 use crate::keeping::{keep, verdict_at};
 use geo_guess::{Guesses, what_is_listed_is_posed};
 use geo_settle::Gate;
-use geo_sketch::{NoMemory, Sketch, Statement, Verdict};
+use geo_sketch::{NoMemory, Sketch, Statement, Verdict, has_claim};
 use indexmap::IndexMap;
 use std::alloc::Global;
 use std::thread::Threads;
@@ -28,7 +29,7 @@ pub(crate) fn list_conjectures<R: Threads + Sync, G: Gate + Sync>(
     workers: u64,
     gate: &G,
 ) -> Result<(), NoMemory>
-    requires workers { (0 < workers) × (workers ≤ 16) }
+    requires workers { (0 < workers) × (workers ≤ WORKER_LIMIT) }
     requires guesses { IsGuessesOf guesses.now sketch.now }
     requires kept { AreKept sketch.now kept.old.entries }
     ensures kept { AreKept sketch.now kept.new.entries }
@@ -59,7 +60,7 @@ pub(crate) fn list_claims<R: Threads + Sync, G: Gate + Sync>(
     workers: u64,
     gate: &G,
 ) -> Result<(), NoMemory>
-    requires workers { (0 < workers) × (workers ≤ 16) }
+    requires workers { (0 < workers) × (workers ≤ WORKER_LIMIT) }
     requires guesses { IsGuessesOf guesses.now sketch.now }
     requires kept { AreKept sketch.now kept.old.entries }
     ensures kept { AreKept sketch.now kept.new.entries }
@@ -83,7 +84,7 @@ fn list_all<R: Threads + Sync, G: Gate + Sync>(
     workers: u64,
     gate: &G,
 ) -> Result<(), NoMemory>
-    requires workers { (0 < workers) × (workers ≤ 16) }
+    requires workers { (0 < workers) × (workers ≤ WORKER_LIMIT) }
     requires posed { All (IsPosed sketch.now.elements) statements.now }
     requires kept { AreKept sketch.now kept.old.entries }
     ensures kept { AreKept sketch.now kept.new.entries }
@@ -109,7 +110,7 @@ fn entry_of<R: Threads + Sync, G: Gate + Sync>(
     workers: u64,
     gate: &G,
 ) -> Result<Entry, NoMemory>
-    requires workers { (0 < workers) × (workers ≤ 16) }
+    requires workers { (0 < workers) × (workers ≤ WORKER_LIMIT) }
     requires posed { IsPosed sketch.now.elements s.now }
     requires kept { AreKept sketch.now kept.old.entries }
     ensures kept { AreKept sketch.now kept.new.entries }
@@ -147,24 +148,6 @@ fn leave_out(list: &mut Vec<Statement>, others: &[Statement])
     list.retain(
         |s: &Statement| -> bool
             ensures { result ≡ not (is_claimed others.entry.now s.now) }
-        { !is_among(others, s) },
+        { !has_claim(others, s) },
     );
-}
-
-/// Whether the statement stands in the list.
-fn is_among(list: &[Statement], s: &Statement) -> bool
-    ensures { result ≡ is_claimed list.now s.now }
-{
-    for t in list {
-        if is_same(t, s) {
-            return true;
-        }
-    }
-    false
-}
-
-fn is_same(t: &Statement, s: &Statement) -> bool
-    ensures { result ≡ same_statement t.now s.now }
-{
-    t == s
 }

@@ -4,6 +4,7 @@ ghost use Rattle.std.specs.Prelude.{◌≡◌, ◌≤◌, ◌<◌, IfOk};
 ghost use Rattle.geo_sketch.specs.Sketches.{IsPosed};
 ghost use Rattle.geo_degree.specs.VerdictFunction.{verdict_of};
 ghost use Rattle.geo_degree.specs.Verdicts.{question_of};
+ghost use Rattle.geo_board.specs.declared.limits.TheConstants.{WORKER_LIMIT};
 
 use geo_grid::Posed;
 use geo_settle::{Gate, settle};
@@ -20,7 +21,7 @@ pub(crate) fn settle_in<R: Threads + Sync, G: Gate + Sync>(
     workers: u64,
     gate: &G,
 ) -> Result<Verdict, NoMemory>
-    requires workers { (0 < workers) × (workers ≤ 16) }
+    requires workers { (0 < workers) × (workers ≤ WORKER_LIMIT) }
     requires posed { IsPosed sketch.now.elements s.now }
     ensures { IfOk result (λ r. r ≡ verdict_of (question_of sketch.now.elements s.now)) }
 {

@@ -11,6 +11,7 @@ use Rattle.geo_parse.specs.declared.commands.Command.{Command}
 use Rattle.geo_parse.specs.declared.commands.Command.TheVariants.{Add, Drag, Drop, Claim, Dual, Undo, Redo, Screen, Conjectures, Ledger, Certify, Svg, Show, Close}
 use Rattle.geo_parse.specs.Words.{words}
 use Rattle.geo_parse.specs.Numbers.{number_of}
+use Rattle.geo_parse.specs.declared.limits.TheConstants.{LINE_LIMIT}
 
 -- what a word of a command has to be: this text, this name, this number; or what no word can be
 pub data Part : Type 0 where
@@ -75,7 +76,7 @@ is_plain b = (b == 9) || (nat_le 32 b && nat_le b 126)
 
 -- at most 200 bytes, all of them plain
 pub record IsLine (line : List ℕ) : Type 0 where
-  pub short : length line ≤ 200
+  pub short : length line ≤ LINE_LIMIT
   pub plain : list_all is_plain line ≡ true
 
 -- the line is a spelling of the command

@@ -4,6 +4,7 @@ use Rattle.std.specs.List.{AllByRecursion, join_with_byte}
 use Rattle.std.specs.Fmt.{signed_decimal}
 use Rattle.geo_parse.specs.declared.commands.Command.{Command}
 use Rattle.geo_parse.specs.Grammar.{Part, text, name, number, nothing, parts}
+use Rattle.geo_sketch.specs.declared.limits.TheConstants.{COORDINATE_LIMIT}
 
 -- a word without leading zeros
 abbrev pub written : Part → List ℕ
@@ -18,7 +19,7 @@ canonical c = join_with_byte 32 (map written (parts c))
 
 -- a number from -1000 to 1000
 abbrev pub IsSmall : ℤ → Type 0
-IsSmall z = unsigned_abs z ≤ 1000
+IsSmall z = unsigned_abs z ≤ COORDINATE_LIMIT
 
 -- a number is small, and there is a word to write
 abbrev pub CanStand : Part → Type 0

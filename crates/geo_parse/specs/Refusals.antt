@@ -12,6 +12,7 @@ use Rattle.geo_parse.specs.Words.{words}
 use Rattle.geo_parse.specs.Numbers.{is_number}
 use Rattle.geo_parse.specs.CommandWords.{command_word_of, statement_word_of}
 use Rattle.geo_parse.specs.Grammar.{is_plain, is_silent}
+use Rattle.geo_parse.specs.declared.limits.TheConstants.{LINE_LIMIT}
 
 -- the words behind those that say what is asked for, and how many names and then how many numbers they should be
 pub record Form : Type 0 where
@@ -88,7 +89,7 @@ breaks test (Some f) = test f
 
 -- the refusal applies to the line, whatever others do
 unfoldable pub applies : List ℕ → Refusal → Bool
-applies line refusal.Long = nat_lt 200 (length line)
+applies line refusal.Long = nat_lt LINE_LIMIT (length line)
 applies line refusal.Ascii = not (list_all is_plain line)
 applies line refusal.Command = not (is_silent (words line)) && is_none (form_of (words line))
 applies line refusal.Arity = not (is_silent (words line)) && breaks (λ f. has_wrong_count f.names f.numbers f.operands) (form_of (words line))

@@ -5,6 +5,7 @@
 mod command_words;
 mod commands;
 mod laws;
+mod limits;
 mod lines;
 mod numbers;
 mod operands;
@@ -17,7 +18,8 @@ mod words;
 
 pub use commands::Command;
 pub use laws::spells_one_command;
-pub use lines::read_line;
+pub use limits::LINE_LIMIT;
+pub use lines::{are_plain, read_line};
 pub use numbers::read_natural;
 pub use printing::print_command;
 pub use words::{Words, split_words};

@@ -12,12 +12,10 @@ ghost use Rattle.geo_parse.specs.Reading.{read_of};
 ghost use Rattle.geo_parse.specs.Readers.{Reads};
 
 use crate::commands::Command;
+use crate::limits::LINE_LIMIT;
 use crate::reading::read_command;
 use crate::words::split_words;
 use geo_sketch::Refusal;
-
-/// The greatest number of bytes of a line.
-const MAX_LEN: usize = 200;
 
 /// Room for the words of a line: no command has more than five, and a sixth
 /// shows that there are too many.
@@ -39,7 +37,7 @@ pub fn read_line(line: &[u8]) -> Result<Option<Command>, Refusal>
 fn reading(line: &[u8]) -> Result<Option<Command>, Refusal>
     ensures { Reads line.now result }
 {
-    if line.len() > MAX_LEN {
+    if line.len() > LINE_LIMIT {
         return Err(Refusal::Long);
     }
     if !are_plain(line) {
@@ -83,7 +81,8 @@ fn gather<'a>(line: &'a [u8], found: &mut [&'a [u8]]) -> usize
     count
 }
 
-fn are_plain(bytes: &[u8]) -> bool
+/// Whether all bytes are those of a line: a tab, or ASCII from space to tilde.
+pub fn are_plain(bytes: &[u8]) -> bool
     ensures { result ≡ list_all is_plain bytes.now }
 {
     bytes.iter().all(|b| is_plain(*b))

@@ -3,6 +3,8 @@
 ghost use Rattle.std.specs.Prelude.{◌≡◌};
 ghost use Rattle.geo_parse.specs.Numbers.{natural_of, number_of};
 
+use geo_sketch::COORDINATE_LIMIT;
+
 /// Reads a number from -1000 to 1000; None where the word is none.
 #[tactic(auto, unfolding(crate::specs::Numbers::number_of))]
 pub fn read_number(word: &[u8]) -> Option<i64>
@@ -30,5 +32,9 @@ pub fn read_natural(digits: &[u8]) -> Option<u16>
         }
         value = value * 10 + u16::from(*digit - b'0');
     }
-    if value <= 1000 { Some(value) } else { None }
+    if u64::from(value) <= COORDINATE_LIMIT {
+        Some(value)
+    } else {
+        None
+    }
 }

@@ -6,6 +6,7 @@ ghost use Rattle.geo_session.specs.Answers.{State, is_refused};
 ghost use Rattle.geo_session.specs.Standing.{StandsFor};
 ghost use Rattle.geo_session.specs.Views.{empty_views};
 ghost use Rattle.geo_script.specs.Places.{Place, StandsAt, AreCarriedOut, beginning, given_at, place_after};
+ghost use Rattle.geo_board.specs.declared.limits.TheConstants.{WORKER_LIMIT};
 
 use geo_session::{Reply, Session};
 use geo_settle::Gate;
@@ -28,7 +29,7 @@ impl<W: Views> Script<W> {
     /// A script of which no line was taken, with the views of its session. So many workers
     /// share the search over each grid.
     pub fn new(alloc: Global, views: W, workers: u64) -> Script<W>
-        requires { (0 < workers) × (workers ≤ 16) }
+        requires { (0 < workers) × (workers ≤ WORKER_LIMIT) }
         ensures { (kinds : List ViewKind) → W.shows views ≡ empty_views kinds → StandsAt W.shows result (beginning kinds) }
     {
         Script {

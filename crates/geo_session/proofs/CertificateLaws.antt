@@ -8,7 +8,7 @@ use Rattle.geo_sketch.specs.declared.verdicts.Verdict.{Verdict}
 use Rattle.geo_sketch.specs.declared.verdicts.Verdict.TheVariants.{Proved, False, Unsettled}
 use Rattle.geo_sketch.specs.Assignments.{assignment_of}
 use Rattle.geo_sketch.specs.Sketches.{Drawing, IsDrawn}
-use Rattle.geo_sketch.specs.Statements.{AreZero}
+use Rattle.geo_triple.specs.Zero.{AreZero}
 use Rattle.geo_sketch.proofs.NeededParts.{needed_holds, needed_parts}
 use Rattle.geo_sketch.proofs.SketchLaws.{constructed}
 use Rattle.geo_cert.specs.Making.{certificate_by}

@@ -8,7 +8,8 @@ use Rattle.geo_sketch.specs.declared.changes.Refusal.{Refusal}
 use Rattle.geo_sketch.specs.declared.changes.Refusal.TheVariants as refusal
 use Rattle.geo_sketch.specs.declared.statements.Said.{Said}
 use Rattle.geo_sketch.specs.declared.statements.Statement.{Statement}
-use Rattle.geo_sketch.specs.Sketches.{Drawing, blank, claim_limit, IsDrawn}
+use Rattle.geo_sketch.specs.Sketches.{Drawing, blank, IsDrawn}
+use Rattle.geo_sketch.specs.declared.limits.TheConstants.{CLAIM_LIMIT}
 use Rattle.geo_sketch.specs.Changes.{all_but_last, AllLead, LeadsFrom}
 use Rattle.geo_sketch.specs.Additions.{addition_of}
 use Rattle.geo_sketch.specs.Claims.{claim_of, claiming, claiming_ordered, in_order, is_claimed, meaning_of, resolution_of}
@@ -48,7 +49,7 @@ ordered_claims claims (Some c) d h = cond_both (is_claimed claims c) (Err refusa
 
 claims_only : (claims : List Statement) (r : Result Statement Refusal) (d : Delta) → claiming claims r ≡ Ok d → (c : Statement) × (delta.Claimed c ≡ d)
 claims_only claims (Err r) d h = cc
-claims_only claims (Ok s) d h = cond_both (nat_le claim_limit (length claims)) (Err refusal.Full) (claiming_ordered claims (in_order s)) (λ r. r ≡ Ok d → (c : Statement) × (delta.Claimed c ≡ d)) (λ t g. cc) (λ t g. ordered_claims claims (in_order s) d g) h
+claims_only claims (Ok s) d h = cond_both (nat_le CLAIM_LIMIT (length claims)) (Err refusal.Full) (claiming_ordered claims (in_order s)) (λ r. r ≡ Ok d → (c : Statement) × (delta.Claimed c ≡ d)) (λ t g. cc) (λ t g. ordered_claims claims (in_order s) d g) h
 
 any_claim_leads : (drawing : Drawing) (said : Said) (d : Delta) → IsDrawn drawing → claim_of drawing said ≡ Ok d → LeadsFrom drawing d
 any_claim_leads drawing said d drawn h =

@@ -7,7 +7,7 @@ use Rattle.geo_sketch.specs.Sketches.{Drawing}
 use Rattle.geo_view.specs.declared.shown.Change.{Change}
 use Rattle.geo_view.specs.declared.shown.ViewKind.{ViewKind}
 use Rattle.geo_view.specs.Entries.{seen}
-use Rattle.geo_view.specs.Following.{entries_of}
+use Rattle.geo_eval.specs.Shown.{shown_of}
 use Rattle.geo_view.specs.Sights.{Sight, after}
 use Rattle.geo_session.specs.Answers.{sights_of, start}
 use Rattle.geo_session.specs.Views.{IsShowing, all_showing, empty_views, showing}
@@ -18,14 +18,14 @@ begun [] = refl
 begun (kind ∷ kinds) = ap (λ (l : List (Option Sight)). Some (record { kind = kind; entries = [] }) ∷ l) (begun kinds)
 
 -- what shows a sketch shows the one after a change that it is told of
-pub all_shown : (cs : List Change) (before now : Drawing) → seen cs (entries_of before) ≡ entries_of now → (views : List (Option ViewKind)) → map (option_map (after cs)) (all_showing before views) ≡ all_showing now views
+pub all_shown : (cs : List Change) (before now : Drawing) → seen cs (shown_of before) ≡ shown_of now → (views : List (Option ViewKind)) → map (option_map (after cs)) (all_showing before views) ≡ all_showing now views
 all_shown cs before now follow [] = refl
 all_shown cs before now follow (None ∷ views) = ap (λ l. None ∷ l) (all_shown cs before now follow views)
 all_shown cs before now follow (Some kind ∷ views) =
     let more = all_shown cs before now follow views in
     λ i. Some (record { kind = kind; entries = follow i }) ∷ more i
 
-pub told : {W : Type 0} (shows : W → List (Option Sight)) (old new : W) (cs : List Change) (before now : Drawing) (result : Result (Unit {0}) NoMemory) → OnOk result (shows new ≡ map (option_map (after cs)) (shows old)) → seen cs (entries_of before) ≡ entries_of now → OnOk result ((views : List (Option ViewKind)) → IsShowing shows old before views → IsShowing shows new now views)
+pub told : {W : Type 0} (shows : W → List (Option Sight)) (old new : W) (cs : List Change) (before now : Drawing) (result : Result (Unit {0}) NoMemory) → OnOk result (shows new ≡ map (option_map (after cs)) (shows old)) → seen cs (shown_of before) ≡ shown_of now → OnOk result ((views : List (Option ViewKind)) → IsShowing shows old before views → IsShowing shows new now views)
 told shows old new cs before now (Err e) changed follow = tt
 told shows old new cs before now (Ok u) changed follow = λ views is. changed ∙ ap (map (option_map (after cs))) is ∙ all_shown cs before now follow views
 

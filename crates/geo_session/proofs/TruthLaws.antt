@@ -21,7 +21,8 @@ use Rattle.geo_sketch.specs.Drags.{drag_of}
 use Rattle.geo_sketch.specs.Drops.{drop_of}
 use Rattle.geo_sketch.specs.Samples.{sample_value}
 use Rattle.geo_sketch.specs.Sketches.{Drawing, IsDrawn, IsPosed}
-use Rattle.geo_sketch.specs.Statements.{AreZero, Holds}
+use Rattle.geo_sketch.specs.Statements.{Holds}
+use Rattle.geo_triple.specs.Zero.{AreZero}
 use Rattle.geo_degree.specs.declared.grids.Axis.{Axis}
 use Rattle.geo_degree.specs.Grids.{axes_of, values_on}
 use Rattle.geo_degree.specs.Questions.{point, sample, IsZeroAt}

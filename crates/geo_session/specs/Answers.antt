@@ -23,7 +23,7 @@ use Rattle.geo_infer.specs.Derivations.{inference_of}
 use Rattle.geo_infer.specs.Words.{begins_with}
 use Rattle.geo_view.specs.declared.shown.ViewKind.{ViewKind}
 use Rattle.geo_view.specs.declared.shown.ViewKind.TheVariants.{Plane, Table}
-use Rattle.geo_view.specs.Following.{entries_of}
+use Rattle.geo_eval.specs.Shown.{shown_of}
 use Rattle.geo_view.specs.Pictures.{picture_text}
 use Rattle.geo_view.specs.Sights.{Sight, picture_of}
 use Rattle.geo_view.specs.Walls.{sight_at}
@@ -98,7 +98,7 @@ done_again state (d ∷ ds) = moved state (state.done ++ (d ∷ [])) ds
 
 -- a picture of the sketch is printed
 abbrev pub pictured : State → ViewKind → Answer
-pictured state kind = replied state (Text (picture_text kind (entries_of (drawing_of state))) ∷ [])
+pictured state kind = replied state (Text (picture_text kind (shown_of (drawing_of state))) ∷ [])
 
 -- what is seen of a view is printed, if it is open
 abbrev pub shown_by : State → Option Sight → Answer

@@ -4,12 +4,12 @@ use Rattle.std.specs.declared.alloc.Global.{Global}
 use Rattle.std.specs.declared.dyn_box.DynBox.{DynBox}
 use Rattle.geo_sketch.specs.Sketches.{Drawing}
 use Rattle.geo_view.specs.declared.shown.ViewKind.{ViewKind}
-use Rattle.geo_view.specs.Following.{entries_of}
+use Rattle.geo_eval.specs.Shown.{shown_of}
 use Rattle.geo_view.specs.Sights.{Sight}
 
 -- a view of this kind shows the sketch
 abbrev pub showing : Drawing → ViewKind → Sight
-showing drawing kind = record { kind = kind; entries = entries_of drawing }
+showing drawing kind = record { kind = kind; entries = shown_of drawing }
 
 -- and so do all, by their numbers, but those that were closed
 abbrev pub all_showing : Drawing → List (Option ViewKind) → List (Option Sight)

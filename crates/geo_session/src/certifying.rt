@@ -10,6 +10,7 @@ ghost use Rattle.geo_session.specs.Certificates.{certificate_line};
 ghost use Rattle.geo_session.specs.Printed.{bytes_of, certified_piece, piece_by};
 ghost use Rattle.geo_session.specs.Standing.{IsAt, Gives};
 ghost use Rattle.geo_session.specs.Together.{IsTogether};
+ghost use Rattle.geo_board.specs.declared.limits.TheConstants.{WORKER_LIMIT};
 
 use crate::desk::Desk;
 use crate::ledger_texts::write_line;
@@ -84,7 +85,7 @@ fn write_certified<R: Threads + Sync, G: Gate + Sync>(
     gate: &G,
     out: &mut Vec<u8>,
 ) -> Result<(), NoMemory>
-    requires workers { (0 < workers) × (workers ≤ 16) }
+    requires workers { (0 < workers) × (workers ≤ WORKER_LIMIT) }
     requires posed { IsPosed sketch.now.elements statement.now }
     requires kept { AreKept sketch.now ledger.old }
     ensures written { OnOk result (out.new.items ≡ out.old.items ++ bytes_of (certified_piece sketch.now.elements statement.now)) }

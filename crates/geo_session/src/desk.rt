@@ -10,6 +10,7 @@ ghost use Rattle.geo_session.specs.Printed.{Text, ledger_lines};
 ghost use Rattle.geo_session.specs.Standing.{IsAt, Gives};
 ghost use Rattle.geo_session.specs.Together.{IsTogether};
 ghost use Rattle.geo_session.specs.Views.{empty_views};
+ghost use Rattle.geo_board.specs.declared.limits.TheConstants.{WORKER_LIMIT};
 
 use crate::followers::Followers;
 use crate::ledger_texts::{write_conjectures, write_ledger};
@@ -41,7 +42,7 @@ pub struct Desk<W: Drop> {
 impl<W: Views> Desk<W> {
     /// A desk with nothing done.
     pub(crate) fn new(alloc: Global, views: W, workers: u64) -> Desk<W>
-        requires workers { (0 < workers) × (workers ≤ 16) }
+        requires workers { (0 < workers) × (workers ≤ WORKER_LIMIT) }
         ensures at { (kinds : List PictureKind) → W.shows views ≡ empty_views kinds → IsAt W.shows result (start kinds) }
         ensures together { IsTogether result }
     {

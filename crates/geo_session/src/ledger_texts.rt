@@ -6,12 +6,14 @@ ghost use Rattle.geo_ledger.specs.Ledgers.{AreKept};
 ghost use Rattle.geo_sketch.specs.Lookups.{kind_at, numbered};
 ghost use Rattle.geo_session.specs.LedgerTexts.{conjecture_line, conjectures_text, first_letter, ledger_line, name_at, parameter_text, second_letter, statement_text, two_names, value_text, values_text, verdict_word, word_for};
 ghost use Rattle.geo_session.specs.Printed.{ledger_lines, text_of};
+ghost use Rattle.geo_board.specs.declared.limits.TheConstants.{WORKER_LIMIT};
 
 use geo_guess::Guesses;
 use geo_ledger::{Entry, Ledger};
 use geo_settle::Gate;
 use geo_sketch::{
     Def, Element, Kind, NoMemory, Past, Sketch, Statement, Values, Verdict, find_by_number,
+    find_kind,
 };
 use std::alloc::{AllocError, Global};
 use std::thread::Threads;
@@ -56,7 +58,7 @@ pub(crate) fn write_ledger<R: Threads + Sync, G: Gate + Sync>(
     gate: &G,
     out: &mut Vec<u8>,
 ) -> Result<(), NoMemory>
-    requires workers { (0 < workers) × (workers ≤ 16) }
+    requires workers { (0 < workers) × (workers ≤ WORKER_LIMIT) }
     requires guesses { IsGuessesOf guesses.now sketch.now }
     requires kept { AreKept sketch.now ledger.old }
     ensures written { OnOk result (out.new.items ≡ out.old.items ++ text_of (ledger_lines sketch.now)) }
@@ -187,12 +189,6 @@ fn write_name(elements: &[Element], number: u32, out: &mut Vec<u8>) -> Result<()
         Some(element) => out.extend_from_slice(element.name.bytes()),
         None => Ok(()),
     }
-}
-
-fn find_kind(elements: &[Element], number: u32) -> Option<Kind>
-    ensures { result ≡ kind_at elements.now number }
-{
-    find_by_number(elements, number).map(|element| element.kind)
 }
 
 /// The values at which a statement fails; nothing where it has no axes.

@@ -8,6 +8,7 @@ ghost use Rattle.geo_session.specs.Printed.{AreTrue};
 ghost use Rattle.geo_session.specs.Standing.{StandsFor, Gives, IsSpent};
 ghost use Rattle.geo_session.specs.Texts.{refusal_line};
 ghost use Rattle.geo_session.specs.Views.{empty_views};
+ghost use Rattle.geo_board.specs.declared.limits.TheConstants.{WORKER_LIMIT};
 
 use crate::desk::Desk;
 use crate::laws::refused_lines_change_nothing;
@@ -26,7 +27,7 @@ impl<W: Views> Session<W> {
     /// the session, where they were not closed before. So many workers share the search over
     /// each grid.
     pub fn new(alloc: Global, views: W, workers: u64) -> Session<W>
-        requires { (0 < workers) × (workers ≤ 16) }
+        requires { (0 < workers) × (workers ≤ WORKER_LIMIT) }
         ensures { (kinds : List ViewKind) → W.shows views ≡ empty_views kinds → StandsFor W.shows result (start kinds) }
     {
         Session {

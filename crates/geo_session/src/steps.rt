@@ -11,6 +11,7 @@ ghost use Rattle.geo_session.specs.Answers.{State, answer_beside, answer_by, con
 ghost use Rattle.geo_session.specs.LedgerTexts.{inferred_line};
 ghost use Rattle.geo_session.specs.Standing.{IsAt, Gives};
 ghost use Rattle.geo_session.specs.Together.{IsTogether};
+ghost use Rattle.geo_board.specs.declared.limits.TheConstants.{WORKER_LIMIT};
 
 use crate::desk::Desk;
 use crate::ledger_texts::write_statement;
@@ -170,7 +171,7 @@ fn are_known<R: Threads + Sync, G: Gate + Sync>(
     workers: u64,
     gate: &G,
 ) -> Result<bool, NoMemory>
-    requires workers { (0 < workers) × (workers ≤ 16) }
+    requires workers { (0 < workers) × (workers ≤ WORKER_LIMIT) }
     requires posed { ArePosed sketch.now.elements premises.now }
     requires kept { AreKept sketch.now ledger.old }
     ensures known { IfOk result (λ known. known ≡ are_known sketch.now.elements premises.now) }
@@ -198,7 +199,7 @@ fn is_known<R: Threads + Sync, G: Gate + Sync>(
     workers: u64,
     gate: &G,
 ) -> Result<bool, NoMemory>
-    requires workers { (0 < workers) × (workers ≤ 16) }
+    requires workers { (0 < workers) × (workers ≤ WORKER_LIMIT) }
     requires posed { IsPosed sketch.now.elements premise.now }
     requires kept { AreKept sketch.now ledger.old }
     ensures known { IfOk result (λ known. known ≡ is_known sketch.now.elements premise.now) }

@@ -3,7 +3,7 @@
 ghost use Rattle.std.specs.Prelude.{◌≡◌, ◌++◌, IfOk, OnOk, Option, List};
 ghost use Rattle.geo_eval.specs.Scenes.{IsSceneOf, Leads, before_of};
 ghost use Rattle.geo_view.specs.declared.shown.ViewKind.{ViewKind as PictureKind};
-ghost use Rattle.geo_view.specs.Following.{entries_of};
+ghost use Rattle.geo_eval.specs.Shown.{shown_of};
 ghost use Rattle.geo_view.specs.Pictures.{picture_text};
 ghost use Rattle.geo_view.specs.Walls.{sight_at};
 ghost use Rattle.geo_session.specs.Answers.{State, closed_by, pictured, shown_by, sights_of};
@@ -16,7 +16,7 @@ use crate::state::Reply;
 use crate::texts::write_ok;
 use geo_eval::Scene;
 use geo_sketch::{Delta, NoMemory, Sketch, Stop};
-use geo_view::{ViewKind, Views, changes_of, entries_of, views_follow, write_picture};
+use geo_view::{ViewKind, Views, changes_of, shown_of, views_follow, write_picture};
 use std::alloc::Global;
 
 impl<W: Views> Desk<W> {
@@ -75,11 +75,11 @@ fn draw(
     out: &mut Vec<u8>,
 ) -> Result<(), NoMemory>
     requires { IsSceneOf scene.now sketch.now }
-    ensures { OnOk result (out.new.items ≡ out.old.items ++ picture_text kind (entries_of sketch.now)) }
+    ensures { OnOk result (out.new.items ≡ out.old.items ++ picture_text kind (shown_of sketch.now)) }
 {
     views_follow();
     let _drawn = sketch.elements();
-    let entries = entries_of(alloc, sketch, scene)?;
+    let entries = shown_of(alloc, sketch, scene)?;
     write_picture(alloc, kind, &entries, out)
 }
 

@@ -4,7 +4,7 @@ use Rattle.std.specs.List.{AllZip}
 use Rattle.std.proofs.lemmas.Grind.{common_steps}
 use Rattle.std.proofs.lemmas.Int.{ints}
 use Rattle.std.proofs.lemmas.List.{length-map}
-use Rattle.geo_height.specs.Capped.{statement_limit}
+use Rattle.geo_triple.specs.declared.limits.TheConstants.{STATEMENT_LIMIT}
 use Rattle.geo_sketch.specs.Samples.{sample_value}
 use Rattle.geo_degree.specs.declared.grids.Axis.{Axis}
 use Rattle.geo_degree.specs.Grids.{axis, values_on}
@@ -28,7 +28,7 @@ samples_small : (axes : List Axis) (s : ℕ) → AllZip (λ m n. m ≤ n) (map u
 samples_small [] s = tt
 samples_small (a ∷ axes) s = (small s a.param, samples_small axes s)
 
-pub sample_low : (q : Question) (s : ℕ) → IsForm q → q.height_at (map unsigned_abs (sample q s)) ≤ statement_limit
+pub sample_low : (q : Question) (s : ℕ) → IsForm q → q.height_at (map unsigned_abs (sample q s)) ≤ STATEMENT_LIMIT
 sample_low q s form =
     let xs = sample q s in
     let long : length (map unsigned_abs xs) ≡ length q.axes = length-map xs unsigned_abs ∙ length-map q.axes (λ (a : Axis). sample_value s a.param) in

@@ -5,12 +5,12 @@ use Rattle.std.specs.Ordering.{int_eq}
 use Rattle.std.proofs.lemmas.Bool.Decides.{Decides-and, Decides-int_eq}
 use Rattle.geo_board.specs.Machine.{no_find}
 use Rattle.geo_board.specs.Truth.{IsAnswer}
-use Rattle.geo_sketch.specs.Statements.{AreZero}
+use Rattle.geo_triple.specs.Zero.{AreZero, are_zero}
 use Rattle.geo_degree.specs.Grids.{grid_size}
 use Rattle.geo_degree.specs.Questions.{Question, IsClear, IsLeastFailing, IsZeroAt, grid_of, point}
 use Rattle.geo_settle.specs.declared.bench.First.{First}
 use Rattle.geo_settle.specs.declared.bench.First.TheVariants.{Clear, At}
-use Rattle.geo_settle.specs.Fails.{are_zero, fails_at}
+use Rattle.geo_settle.specs.Fails.{fails_at}
 
 zeros : (zs : List ℤ) → Decides (are_zero zs) (AreZero zs)
 zeros [] = (λ e. tt, λ z. refl)

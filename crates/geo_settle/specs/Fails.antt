@@ -1,15 +1,10 @@
 -- Which points of a grid fail, and what is told of them truly.
-use Rattle.std.specs.Prelude.{ℕ, ℤ, pos, Bool, true, ◌&&◌, not, List, [], ◌∷◌}
-use Rattle.std.specs.Ordering.{int_eq}
+use Rattle.std.specs.Prelude.{ℕ, Bool, not}
+use Rattle.geo_triple.specs.Zero.{are_zero}
 use Rattle.geo_board.specs.declared.seat.Entry.{Entry}
 use Rattle.geo_board.specs.Truth.{IsTruthful}
 use Rattle.geo_degree.specs.Grids.{grid_size}
 use Rattle.geo_degree.specs.Questions.{Question, grid_of, point}
-
--- all of the numbers are 0
-abbrev pub are_zero : List ℤ → Bool
-are_zero [] = true
-are_zero (z ∷ zs) = int_eq z (pos 0) && are_zero zs
 
 -- whether a part is not 0 at point i
 abbrev pub fails_at : Question → ℕ → Bool

@@ -5,13 +5,14 @@ ghost use Rattle.std.specs.Thread.{IsSync};
 ghost use Rattle.geo_board.specs.BoardSeats.{workers_of};
 ghost use Rattle.geo_degree.specs.Questions.{IsClear, IsLeastFailing, IsWithinLimits};
 ghost use Rattle.geo_settle.specs.Rounds.{HasSwept, IsNewWorkerOf, IsWorkerOf};
+ghost use Rattle.geo_board.specs.declared.limits.TheConstants.{WORKER_LIMIT};
 
 use crate::gate::Gate;
 use crate::round::Round;
 use crate::threads::in_threads;
 use crate::worker::{CHUNK, Room, Worker};
 use crossbeam_utils::CachePadded;
-use geo_board::Board;
+use geo_board::{Board, WORKER_LIMIT};
 use geo_grid::{Cursor, Form, Grid};
 use geo_sketch::NoMemory;
 use std::alloc::Global;
@@ -61,7 +62,7 @@ impl<'a, F: Form + Sync> Bench<'a, F> {
     ) -> Result<Bench<'a, F>, NoMemory>
         requires grid { grid.now ≡ (F.question form.now).blocks }
         requires within { IsWithinLimits (F.question form.now) }
-        requires workers { (0 < workers) × (workers ≤ 16) }
+        requires workers { (0 < workers) × (workers ≤ WORKER_LIMIT) }
         ensures { IfOk result (λ bench. bench ≡ (form.now, workers)) }
     {
         let size = grid.size();
@@ -71,7 +72,7 @@ impl<'a, F: Form + Sync> Bench<'a, F> {
         let mut list = Vec::new(alloc);
         while let Some(seat) = seats.pop() {
             let cursor = Cursor::new(alloc, form, grid)?;
-            let Ok(seats) = Vec::with_capacity(alloc, 16) else {
+            let Ok(seats) = Vec::with_capacity(alloc, WORKER_LIMIT as usize) else {
                 return Err(NoMemory);
             };
             let room = Room { seats };

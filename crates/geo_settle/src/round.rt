@@ -29,7 +29,9 @@ impl<'a, F: Form> Model for Round<'a, F> {
     ghost use Rattle.geo_board.specs.BoardSeats.{total_of, workers_of};
     ghost use Rattle.geo_board.specs.Truth.{chunk_count};
     ghost use Rattle.geo_degree.specs.Grids.{grid_size};
-    ghost use Rattle.geo_degree.specs.Questions.{grid_of, size_limit};
+    ghost use Rattle.geo_degree.specs.Questions.{grid_of};
+    ghost use Rattle.geo_degree.specs.declared.limits.TheConstants.{SIZE_LIMIT};
+    ghost use Rattle.geo_board.specs.declared.limits.TheConstants.{WORKER_LIMIT};
 
     ghost Value = { F × Board };
 
@@ -37,9 +39,9 @@ impl<'a, F: Form> Model for Round<'a, F> {
 
     ghost invariant = { λ r.
         (r.size ≡ grid_size (grid_of (F.question r.form.now))) ×
-        (r.size ≤ size_limit) ×
+        (r.size ≤ SIZE_LIMIT) ×
         (total_of r.board ≡ chunk_count r.size) ×
-        (workers_of r.board ≤ 16) };
+        (workers_of r.board ≤ WORKER_LIMIT) };
 }
 
 impl<'a, F: Form + Sync> Round<'a, F> {

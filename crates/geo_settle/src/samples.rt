@@ -1,8 +1,8 @@
 //! The search over the sample positions, where there is no grid that can be searched.
 
 ghost use Rattle.std.specs.Prelude.{◌≡◌, ◌<◌, ◌*◌, ◌⊎◌, ◌↔◌, ℤ, List, length, All, IfOk, false};
-ghost use Rattle.geo_sketch.specs.Samples.{sample_count, sample_value as sample_at};
-ghost use Rattle.geo_sketch.specs.Sketches.{number_limit};
+ghost use Rattle.geo_sketch.specs.Samples.{sample_value as sample_at};
+ghost use Rattle.geo_sketch.specs.declared.limits.TheConstants.{SAMPLE_COUNT, NUMBER_LIMIT};
 ghost use Rattle.geo_degree.specs.declared.grids.Axis.{Axis as GridAxis};
 ghost use Rattle.geo_degree.specs.Grids.{values_on};
 ghost use Rattle.geo_degree.specs.Questions.{IsZeroAt, sample};
@@ -11,14 +11,11 @@ ghost use Rattle.geo_settle.specs.Findings.{IsSampleFinding};
 use crate::values::{blank_values, name_values};
 use geo_degree::Axis;
 use geo_grid::{Form, Scratch};
-use geo_sketch::{NoMemory, Values, sample_value};
+use geo_sketch::{NoMemory, SAMPLE_COUNT, Values, sample_value};
 use geo_triple::Steps;
 use std::alloc::Global;
 use std::marker::Brand;
 use std::sync::ledger::{Blank, Ledger};
-
-/// How many sample positions there are.
-const SAMPLE_COUNT: u32 = 8;
 
 /// The values of the axes at the first sample position at which a part of the form is not
 /// 0; None where all parts are 0 at all of them.
@@ -42,7 +39,7 @@ fn first_failing<F: Form, L: Ledger>(
     let mut steps = Steps::<L>::new(blank);
     let mut values = blank_values(alloc, form)?;
     let mut work = form.scratch(alloc)?;
-    for position in 0..SAMPLE_COUNT {
+    for position in 0..SAMPLE_COUNT as u32 {
         if fails_at(form, position, &mut values, &mut work, &mut steps) {
             return Ok(Some(name_values(alloc, form.axes(), &values)?));
         }
@@ -58,7 +55,7 @@ fn fails_at<F: Form, L: Ledger>(
     work: &mut Scratch,
     steps: &mut Steps<L>,
 ) -> bool
-    requires position { position < sample_count }
+    requires position { position < SAMPLE_COUNT }
     requires count { length values.old ≡ length (F.question form.now).axes }
     requires work { F.is_fresh form.now work.old ⊎ ((xs : List ℤ) × F.stands_for form.now work.old xs) }
     ensures values { values.new ≡ sample (F.question form.now) position }
@@ -72,8 +69,8 @@ fn fails_at<F: Form, L: Ledger>(
 
 /// Writes the value of each axis at a sample position.
 pub(crate) fn write_sample(axes: &[Axis], position: u32, values: &mut [i64])
-    requires position { position < sample_count }
-    requires parameters { All (λ (a : GridAxis). a.param < 2 * number_limit) axes.now }
+    requires position { position < SAMPLE_COUNT }
+    requires parameters { All (λ (a : GridAxis). a.param < 2 * NUMBER_LIMIT) axes.now }
     requires count { length values.old ≡ length axes.now }
     ensures { values.new ≡ values_on axes.now (sample_at position) }
 {

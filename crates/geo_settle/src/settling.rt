@@ -4,6 +4,7 @@ ghost use Rattle.std.specs.Prelude.{◌≡◌, ◌<◌, ◌≤◌, IfOk};
 ghost use Rattle.geo_degree.specs.Questions.{IsWithinLimits, IsZeroEverywhere};
 ghost use Rattle.geo_degree.specs.VerdictFunction.{verdict_of};
 ghost use Rattle.geo_degree.specs.Verdicts.{IsGridVerdict, IsPast, IsSampleVerdict};
+ghost use Rattle.geo_board.specs.declared.limits.TheConstants.{WORKER_LIMIT};
 
 use crate::bench::{Bench, First};
 use crate::gate::Gate;
@@ -27,7 +28,7 @@ pub fn settle<F: Form + Sync, R: Threads + Sync, G: Gate + Sync>(
     workers: u64,
     gate: &G,
 ) -> Result<Verdict, NoMemory>
-    requires { (0 < workers) × (workers ≤ 16) }
+    requires { (0 < workers) × (workers ≤ WORKER_LIMIT) }
     ensures { IfOk result (λ r. r ≡ verdict_of (F.question form.now)) }
 {
     verdict_of_is_the_verdict();
@@ -49,7 +50,7 @@ fn verdict_on_grid<F: Form + Sync, R: Threads + Sync, G: Gate + Sync>(
 ) -> Result<Verdict, NoMemory>
     requires grid { grid.now ≡ (F.question form.now).blocks }
     requires within { IsWithinLimits (F.question form.now) }
-    requires workers { (0 < workers) × (workers ≤ 16) }
+    requires workers { (0 < workers) × (workers ≤ WORKER_LIMIT) }
     ensures { IfOk result (λ r. IsGridVerdict (F.question form.now) (IsZeroEverywhere (F.question form.now)) r) }
 {
     match Bench::prepare(alloc, form, grid, workers)?.run(rt, gate) {

@@ -8,6 +8,7 @@ ghost use Rattle.geo_degree.specs.Grids.{grid_size};
 ghost use Rattle.geo_degree.specs.Questions.{grid_of};
 ghost use Rattle.geo_settle.specs.Fails.{IsTruthfulOf, fails_at};
 ghost use Rattle.geo_settle.specs.Rounds.{HasSwept, IsIdle, IsWorkerOf};
+ghost use Rattle.geo_board.specs.declared.limits.TheConstants.{WORKER_LIMIT};
 
 use crate::gate::Gate;
 use crate::round::Round;
@@ -29,7 +30,7 @@ const RUN: u64 = 64;
 pub(crate) struct Room {
     pub(crate) seats: Vec<BoardSeat>,
     ghost empty: { seats.items ≡ [] },
-    ghost enough: { 16 ≤ vec_capacity seats },
+    ghost enough: { WORKER_LIMIT ≤ vec_capacity seats },
 }
 
 /// A worker of a round. It has a seat on the board, a cursor of its own, and room for all

@@ -24,8 +24,9 @@ use Rattle.geo_sketch.specs.declared.elements.Element.{Element}
 use Rattle.geo_sketch.specs.declared.statements.Statement.{Statement}
 use Rattle.geo_sketch.specs.declared.statements.Statement.TheVariants as statement
 use Rattle.geo_sketch.specs.Assignments.{setting_of}
-use Rattle.geo_sketch.specs.PlainHeights.{plain_height_algebra, plain_height_of, new_plain_height, threes, height_limit}
-use Rattle.geo_sketch.specs.Sketches.{Drawing, next_number, IsDrawn, other, Refers, IsDefined, IsEntry, IsPosed, ArePosed, IsSketch, element_parameters, parameter_count, values_in, element_limit, parameter_limit, number_limit}
+use Rattle.geo_sketch.specs.PlainHeights.{plain_height_algebra, plain_height_of, new_plain_height, threes}
+use Rattle.geo_sketch.specs.declared.limits.TheConstants.{HEIGHT_LIMIT, ELEMENT_LIMIT, PARAMETER_LIMIT, NUMBER_LIMIT}
+use Rattle.geo_sketch.specs.Sketches.{Drawing, next_number, IsDrawn, other, Refers, IsDefined, IsEntry, IsPosed, ArePosed, IsSketch, element_parameters, parameter_count, values_in}
 use Rattle.geo_sketch.specs.Lookups.{numbered, Rises, find_named}
 use Rattle.geo_sketch.specs.Changes.{LeadsFrom}
 use Rattle.geo_sketch.specs.Additions.{same_kind, referred, both_referred, with_found, definition_of, first_setting_of, is_full, would_be_tall, new_element, adding, adding_unless, addition_of, IsSmallSpec}
@@ -91,10 +92,10 @@ pub record IsNew (es : List Element) (ss : List Setting) (x : Element) (s : Sett
   pub well_defined : IsDefined es x.number x.kind x.def
   pub new_name : find_named es x.name ≡ None
   pub fits : values_in s ≡ parameter_count x.def
-  pub low : new_plain_height es x.number x.def ≤ height_limit
-  pub elements_room : length es + 1 ≤ element_limit
-  pub parameters_room : sum_by element_parameters es + parameter_count x.def ≤ parameter_limit
-  pub numbers_room : length ss + 1 ≤ number_limit
+  pub low : new_plain_height es x.number x.def ≤ HEIGHT_LIMIT
+  pub elements_room : length es + 1 ≤ ELEMENT_LIMIT
+  pub parameters_room : sum_by element_parameters es + parameter_count x.def ≤ PARAMETER_LIMIT
+  pub numbers_room : length ss + 1 ≤ NUMBER_LIMIT
 
 module _ (es : List Element) (ss : List Setting) (cs : List Statement) (x : Element) (s : Setting) (sketch : IsSketch es ss cs) (new : IsNew es ss x s) where
   below : (n : ℕ) (e : Element) → numbered es n ≡ Some e → n < x.number
@@ -237,7 +238,7 @@ first_setting_fits es kind (spec.Cross k m) d h = by_found (both_referred (find_
     by_found (Ok p) g = let same : Cross p.0 p.1 ≡ d = cc in ap parameter_count same
     by_found (Err r) g = cc
 
-room : (drawing : Drawing) (d : Def) → is_full drawing d ≡ false → (length drawing.elements + 1 ≤ element_limit) × (sum_by element_parameters drawing.elements + parameter_count d ≤ parameter_limit) × (length drawing.settings + 1 ≤ number_limit)
+room : (drawing : Drawing) (d : Def) → is_full drawing d ≡ false → (length drawing.elements + 1 ≤ ELEMENT_LIMIT) × (sum_by element_parameters drawing.elements + parameter_count d ≤ PARAMETER_LIMIT) × (length drawing.settings + 1 ≤ NUMBER_LIMIT)
 room drawing d h = grind (arith, nat_tests)
 
 pub addition_leads : (drawing : Drawing) (name : List ℕ) (kind : Kind) (s : Spec) (change : Delta) → IsDrawn drawing → IsSmallSpec s → addition_of drawing name kind s ≡ Ok change → LeadsFrom drawing change
@@ -257,7 +258,7 @@ addition_leads drawing name kind s change sketch small h = by_name (find_named d
           well_defined = definition_fits drawing.elements drawing.settings drawing.claims sketch kind s d small q;
           new_name = p;
           fits = first_setting_fits drawing.elements kind s d q;
-          low = ltb-false height_limit (new_plain_height drawing.elements (next_number drawing) d) u;
+          low = ltb-false HEIGHT_LIMIT (new_plain_height drawing.elements (next_number drawing) d) u;
           elements_room = rooms.0;
           parameters_room = rooms.1;
           numbers_room = rooms.2;

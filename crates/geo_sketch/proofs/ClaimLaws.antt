@@ -16,7 +16,8 @@ use Rattle.geo_sketch.specs.declared.statements.Statement.{Statement}
 use Rattle.geo_sketch.specs.declared.statements.Statement.TheVariants as statement
 use Rattle.geo_sketch.specs.declared.statements.Said.{Said}
 use Rattle.geo_sketch.specs.declared.statements.Said.TheVariants as said
-use Rattle.geo_sketch.specs.Sketches.{Drawing, IsDrawn, IsPosed, ArePosed, IsSketch, claim_limit}
+use Rattle.geo_sketch.specs.Sketches.{Drawing, IsDrawn, IsPosed, ArePosed, IsSketch}
+use Rattle.geo_sketch.specs.declared.limits.TheConstants.{CLAIM_LIMIT}
 use Rattle.geo_sketch.specs.Lookups.{kind_at, Rises, find_named}
 use Rattle.geo_sketch.specs.Changes.{LeadsFrom}
 use Rattle.geo_sketch.specs.Additions.{same_kind}
@@ -167,7 +168,7 @@ one_more_posed : (es : List Element) (cs : List Statement) (c : Statement) → A
 one_more_posed es [] c h g = (g, tt)
 one_more_posed es (x ∷ xs) c h g = (h.0, one_more_posed es xs c h.1 g)
 
-pub claimed_drawn : (es : List Element) (ss : List Setting) (cs : List Statement) (c : Statement) → IsSketch es ss cs → IsPosed es c → length cs < claim_limit → IsSketch es ss (cs ++ c ∷ [])
+pub claimed_drawn : (es : List Element) (ss : List Setting) (cs : List Statement) (c : Statement) → IsSketch es ss cs → IsPosed es c → length cs < CLAIM_LIMIT → IsSketch es ss (cs ++ c ∷ [])
 claimed_drawn es ss cs c sketch posed room = record {
   rising = sketch.rising;
   given = sketch.given;
@@ -183,7 +184,7 @@ claimed_drawn es ss cs c sketch posed room = record {
 pub claim_leads : (drawing : Drawing) (x : Said) (c : Statement) → IsDrawn drawing → claim_of drawing x ≡ Ok (delta.Claimed c) → LeadsFrom drawing (delta.Claimed c)
 claim_leads drawing x c sketch h = by_meaning (meaning_of drawing.elements x) refl h
   where
-    by_order : (s : Statement) (o : Option Statement) → IsFitting drawing.elements s → in_order s ≡ o → length drawing.claims < claim_limit → claiming_ordered drawing.claims o ≡ Ok (delta.Claimed c) → LeadsFrom drawing (delta.Claimed c)
+    by_order : (s : Statement) (o : Option Statement) → IsFitting drawing.elements s → in_order s ≡ o → length drawing.claims < CLAIM_LIMIT → claiming_ordered drawing.claims o ≡ Ok (delta.Claimed c) → LeadsFrom drawing (delta.Claimed c)
     by_order s None fits q room g = cc
     by_order s (Some o) fits q room g =
         cond_both (is_claimed drawing.claims o) (Err refusal.Repeat) (Ok (delta.Claimed o)) (λ r. r ≡ Ok (delta.Claimed c) → LeadsFrom drawing (delta.Claimed c))
@@ -196,7 +197,7 @@ claim_leads drawing x c sketch h = by_meaning (meaning_of drawing.elements x) re
     by_meaning : (r : Result Statement Refusal) → meaning_of drawing.elements x ≡ r → claiming drawing.claims r ≡ Ok (delta.Claimed c) → LeadsFrom drawing (delta.Claimed c)
     by_meaning (Err r) q g = cc
     by_meaning (Ok s) q g =
-        cond_both (nat_le claim_limit (length drawing.claims)) (Err refusal.Full) (claiming_ordered drawing.claims (in_order s)) (λ r. r ≡ Ok (delta.Claimed c) → LeadsFrom drawing (delta.Claimed c))
+        cond_both (nat_le CLAIM_LIMIT (length drawing.claims)) (Err refusal.Full) (claiming_ordered drawing.claims (in_order s)) (λ r. r ≡ Ok (delta.Claimed c) → LeadsFrom drawing (delta.Claimed c))
         (λ t k. cc)
         (λ t k. by_order s (in_order s) (meaning_fits drawing.elements sketch.rising x s q) refl (grind (arith, nat_tests)) k)
         g

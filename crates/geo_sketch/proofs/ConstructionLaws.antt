@@ -6,9 +6,13 @@ use Rattle.std.proofs.lemmas.List.{reverse-append}
 use Rattle.geo_sketch.specs.declared.elements.Def.{Def}
 use Rattle.geo_sketch.specs.declared.elements.Def.TheVariants.{Free, Fixed, Cut, Blend, Cross}
 use Rattle.geo_sketch.specs.declared.elements.Element.{Element}
-use Rattle.geo_sketch.specs.Constructions.{Algebra, by_def, along, computed, by_found, AtNamed, IsBuilt, IsStepwise}
+use Rattle.geo_sketch.specs.Constructions.{Algebra, by_def, along, computed, by_found, AtNamed, IsStepwise}
 use Rattle.geo_sketch.specs.Lookups.{def_at, numbered, Rises}
 use Rattle.geo_sketch.proofs.NumberLaws.{numbered_back}
+
+-- each definition names smaller numbers alone
+abbrev pub IsBuilt : List Element → Type 0
+IsBuilt es = (n : ℕ) (d : Def) → def_at es n ≡ Some d → AtNamed d (λ k. k < n)
 
 pub at_named : (P Q : ℕ → Type 0) (d : Def) → ((k : ℕ) → P k → Q k) → AtNamed d P → AtNamed d Q
 at_named P Q Free f h = tt

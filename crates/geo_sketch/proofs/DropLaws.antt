@@ -16,7 +16,8 @@ use Rattle.geo_sketch.specs.declared.statements.Statement.{Statement}
 use Rattle.geo_sketch.specs.declared.changes.Delta.{Delta}
 use Rattle.geo_sketch.specs.declared.changes.Delta.TheVariants as delta
 use Rattle.geo_sketch.specs.declared.changes.Refusal.TheVariants as refusal
-use Rattle.geo_sketch.specs.Constructions.{Algebra, computed, AtNamed, IsBuilt}
+use Rattle.geo_sketch.specs.Constructions.{Algebra, computed, AtNamed}
+use Rattle.geo_sketch.proofs.ConstructionLaws.{IsBuilt, at_named}
 use Rattle.geo_sketch.specs.Lookups.{def_at, numbered, kind_at, Rises, find_named, IsLive}
 use Rattle.geo_sketch.specs.Assignments.{setting_of}
 use Rattle.geo_sketch.specs.PlainHeights.{plain_height_algebra, threes}
@@ -25,7 +26,6 @@ use Rattle.geo_sketch.specs.Dependence.{depends_on}
 use Rattle.geo_sketch.specs.Changes.{without, LeadsFrom}
 use Rattle.geo_sketch.specs.Drops.{refers_to, speaks_of, some_refer_to, some_speak_of, is_used, dropping, drop_of}
 use Rattle.geo_sketch.proofs.AdditionLaws.{found_by_name}
-use Rattle.geo_sketch.proofs.ConstructionLaws.{at_named}
 use Rattle.geo_sketch.proofs.ClaimLaws.{neither}
 use Rattle.geo_sketch.proofs.SketchLaws.{construction, defined_same}
 use Rattle.geo_sketch.proofs.NumberLaws.{number_found, def_found, gone, others_stay, rises_without}

@@ -11,7 +11,8 @@ use Rattle.geo_sketch.specs.Lookups.{kind_at}
 use Rattle.geo_sketch.specs.Needs.{needs, renamed_part, stated, AtStated}
 use Rattle.geo_sketch.specs.Rebuilding.{AreSound}
 use Rattle.geo_sketch.specs.Sketches.{IsPosed}
-use Rattle.geo_sketch.specs.Statements.{parts_at, AreZero, Holds}
+use Rattle.geo_sketch.specs.Statements.{parts_at, Holds}
+use Rattle.geo_triple.specs.Zero.{AreZero}
 use Rattle.geo_sketch.specs.Triples.{triple_algebra, triple_at}
 use Rattle.geo_sketch.proofs.NeedLaws.{needed_further, needs_named}
 use Rattle.geo_sketch.proofs.PartLaws.{kind_kept, part_sound, part_values}

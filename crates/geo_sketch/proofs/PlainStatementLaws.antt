@@ -11,13 +11,14 @@ use Rattle.geo_sketch.specs.declared.elements.Def.TheVariants.{Free, Fixed, Cut,
 use Rattle.geo_sketch.specs.declared.elements.Element.{Element}
 use Rattle.geo_sketch.specs.declared.statements.Statement.{Statement}
 use Rattle.geo_sketch.specs.declared.statements.Statement.TheVariants as statement
-use Rattle.geo_sketch.specs.Constructions.{by_def, by_found, computed, IsBuilt}
+use Rattle.geo_sketch.specs.Constructions.{by_def, by_found, computed}
+use Rattle.geo_sketch.proofs.ConstructionLaws.{IsBuilt, computed_step}
 use Rattle.geo_sketch.specs.Lookups.{def_at, Rises}
 use Rattle.geo_sketch.specs.Assignments.{first_parameter}
 use Rattle.geo_sketch.specs.PlainStatements.{passes_through, blends, is_plain}
 use Rattle.geo_sketch.specs.Triples.{triple_algebra, triple_at}
-use Rattle.geo_sketch.specs.Statements.{parts_at, AreZero}
-use Rattle.geo_sketch.proofs.ConstructionLaws.{computed_step}
+use Rattle.geo_sketch.specs.Statements.{parts_at}
+use Rattle.geo_triple.specs.Zero.{AreZero}
 
 dot_swapped : (s t : Triple) → dot_of s t ≡ dot_of t s
 dot_swapped s t = ring (s.a ∷ s.b ∷ s.c ∷ t.a ∷ t.b ∷ t.c ∷ []) (search reads depth 40 fits 5000) tt

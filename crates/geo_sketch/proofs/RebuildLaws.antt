@@ -17,8 +17,9 @@ use Rattle.geo_sketch.specs.declared.elements.Setting.{Setting}
 use Rattle.geo_sketch.specs.declared.elements.Setting.TheVariants as setting
 use Rattle.geo_sketch.specs.declared.elements.Element.{Element}
 use Rattle.geo_sketch.specs.Assignments.{setting_of}
-use Rattle.geo_sketch.specs.PlainHeights.{height_limit, new_plain_height, IsTall}
-use Rattle.geo_sketch.specs.Sketches.{other, Refers, IsDefined, IsEntry, IsSketch, element_parameters, parameter_count, values_in, element_limit, parameter_limit, number_limit}
+use Rattle.geo_sketch.specs.PlainHeights.{new_plain_height, IsTall}
+use Rattle.geo_sketch.specs.declared.limits.TheConstants.{HEIGHT_LIMIT, ELEMENT_LIMIT, PARAMETER_LIMIT, NUMBER_LIMIT}
+use Rattle.geo_sketch.specs.Sketches.{other, Refers, IsDefined, IsEntry, IsSketch, element_parameters, parameter_count, values_in}
 use Rattle.geo_sketch.specs.Lookups.{numbered, kind_at, Rises}
 use Rattle.geo_sketch.specs.Additions.{same_kind}
 use Rattle.geo_sketch.specs.Names.{name_of}
@@ -88,10 +89,10 @@ rises_below low [] x h = refl
 rises_below low (e ∷ es) x h =
     (decides_and (nat_lt e.number x.number) (are_below es x.number) (decides_lt e.number x.number) (λ t. t, λ t. t)).1 (omega (arith, rises_last (e.number + 1) es x h.1), rises_below (e.number + 1) es x h.1)
 
-decides_room : (es : List Element) (n : ℕ) (d : Def) → Decides (has_room es n d) ((n < number_limit) × ((length es < element_limit) × (sum_by element_parameters es + parameter_count d ≤ parameter_limit)))
+decides_room : (es : List Element) (n : ℕ) (d : Def) → Decides (has_room es n d) ((n < NUMBER_LIMIT) × ((length es < ELEMENT_LIMIT) × (sum_by element_parameters es + parameter_count d ≤ PARAMETER_LIMIT)))
 decides_room es n d =
-    decides_and (nat_lt n number_limit) (nat_lt (length es) element_limit && nat_le (sum_by element_parameters es + parameter_count d) parameter_limit) (decides_lt n number_limit)
-    (decides_and (nat_lt (length es) element_limit) (nat_le (sum_by element_parameters es + parameter_count d) parameter_limit) (decides_lt (length es) element_limit) (decides_le (sum_by element_parameters es + parameter_count d) parameter_limit))
+    decides_and (nat_lt n NUMBER_LIMIT) (nat_lt (length es) ELEMENT_LIMIT && nat_le (sum_by element_parameters es + parameter_count d) PARAMETER_LIMIT) (decides_lt n NUMBER_LIMIT)
+    (decides_and (nat_lt (length es) ELEMENT_LIMIT) (nat_le (sum_by element_parameters es + parameter_count d) PARAMETER_LIMIT) (decides_lt (length es) ELEMENT_LIMIT) (decides_le (sum_by element_parameters es + parameter_count d) PARAMETER_LIMIT))
 
 pub sound_construction : (es : List Element) → AreSound es → IsConstruction es
 sound_construction es sound = record { rising = sound.rising; named = λ n e q. rw (← (number_found es n e q)) (named es e.number e.kind e.def (sound.defined n e q)) }
@@ -122,13 +123,13 @@ module _ (es : List Element) (x : Element) where
 
   followed : AreSound es → can_follow es x.number x.kind x.def ≡ true → AreSound (es ++ x ∷ [])
   followed sound h =
-      let below = (decides_and (are_below es x.number) (has_room es x.number x.def && (can_be_defined es x.number x.kind x.def && nat_le (new_plain_height es x.number x.def) height_limit)) (λ t. t, λ t. t) (λ t. t, λ t. t)).0 h in
-      let rooms = (decides_and (has_room es x.number x.def) (can_be_defined es x.number x.kind x.def && nat_le (new_plain_height es x.number x.def) height_limit) (decides_room es x.number x.def) (λ t. t, λ t. t)).0 below.1 in
-      let fits = (decides_and (can_be_defined es x.number x.kind x.def) (nat_le (new_plain_height es x.number x.def) height_limit) (decides_defined es x.number x.kind x.def) (decides_le (new_plain_height es x.number x.def) height_limit)).0 rooms.1 in
+      let below = (decides_and (are_below es x.number) (has_room es x.number x.def && (can_be_defined es x.number x.kind x.def && nat_le (new_plain_height es x.number x.def) HEIGHT_LIMIT)) (λ t. t, λ t. t) (λ t. t, λ t. t)).0 h in
+      let rooms = (decides_and (has_room es x.number x.def) (can_be_defined es x.number x.kind x.def && nat_le (new_plain_height es x.number x.def) HEIGHT_LIMIT) (decides_room es x.number x.def) (λ t. t, λ t. t)).0 below.1 in
+      let fits = (decides_and (can_be_defined es x.number x.kind x.def) (nat_le (new_plain_height es x.number x.def) HEIGHT_LIMIT) (decides_defined es x.number x.kind x.def) (decides_le (new_plain_height es x.number x.def) HEIGHT_LIMIT)).0 rooms.1 in
       let none = not_given es x.number (below_found es x.number below.0) in
       record {
         rising = rises_more 0 es x sound.rising (omega arith) (below_found es x.number below.0);
-        numbers_room = one_more (λ n e. n < number_limit) none sound.numbers_room rooms.0.0;
+        numbers_room = one_more (λ n e. n < NUMBER_LIMIT) none sound.numbers_room rooms.0.0;
         defined = one_more (λ n e. IsDefined (es ++ x ∷ []) e.number e.kind e.def) none (λ n e q. defined_stays es (x ∷ []) e.number e.kind e.def (sound.defined n e q)) (defined_stays es (x ∷ []) x.number x.kind x.def fits.0);
         low = one_more (λ n e. ¬ IsTall (es ++ x ∷ []) n) none (λ n e q. rw (plain_height_stays es x n (λ p. absurd (omega (arith, p, below_found es x.number below.0 n e q)))) (sound.low n e q)) (λ tall. absurd (omega (arith, fits.1, plain_height_own es x, tall)));
         elements_room = omega (arith, rooms.0.1.0, length-append es (x ∷ []));
@@ -140,8 +141,8 @@ module _ (es : List Element) (x : Element) where
       let below = rises_below 0 es x sound.rising in
       let found = last_found es x (not_given es x.number (below_found es x.number below)) in
       let short = sound.low x.number x found in
-      let low : new_plain_height es x.number x.def ≤ height_limit = omega (arith, plain_height_own es x) in
-      let fits = (decides_and (can_be_defined es x.number x.kind x.def) (nat_le (new_plain_height es x.number x.def) height_limit) (decides_defined es x.number x.kind x.def) (decides_le (new_plain_height es x.number x.def) height_limit)).1 (defined_before x.number x.kind x.def (omega arith) (sound.defined x.number x found), low) in
+      let low : new_plain_height es x.number x.def ≤ HEIGHT_LIMIT = omega (arith, plain_height_own es x) in
+      let fits = (decides_and (can_be_defined es x.number x.kind x.def) (nat_le (new_plain_height es x.number x.def) HEIGHT_LIMIT) (decides_defined es x.number x.kind x.def) (decides_le (new_plain_height es x.number x.def) HEIGHT_LIMIT)).1 (defined_before x.number x.kind x.def (omega arith) (sound.defined x.number x found), low) in
       let rooms = (decides_room es x.number x.def).1 (sound.numbers_room x.number x found, (omega (arith, sound.elements_room, length-append es (x ∷ [])), omega (arith, sound.parameters_room, sum_by-append element_parameters es (x ∷ [])))) in
       rw (below, rooms) fits
 
@@ -201,7 +202,7 @@ given_listed low (x ∷ es) r n e h =
     (λ t g. omega (arith, long, gap, r.0, given_listed (x.number + 1) es r.1 n e g))
     h
 
-room_listed : (low : ℕ) (es : List Element) → Rises low es → low ≤ number_limit → ((n : ℕ) (e : Element) → numbered es n ≡ Some e → n < number_limit) → low + length (settings_from low es) ≤ number_limit
+room_listed : (low : ℕ) (es : List Element) → Rises low es → low ≤ NUMBER_LIMIT → ((n : ℕ) (e : Element) → numbered es n ≡ Some e → n < NUMBER_LIMIT) → low + length (settings_from low es) ≤ NUMBER_LIMIT
 room_listed low [] r h room = omega arith
 room_listed low (x ∷ es) r h room =
     let long = length-append (replicate (x.number - low) setting.None) (zeros x.def ∷ settings_from (x.number + 1) es) in

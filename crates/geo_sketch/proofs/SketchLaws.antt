@@ -8,7 +8,8 @@ use Rattle.geo_sketch.specs.declared.elements.Setting.{Setting}
 use Rattle.geo_sketch.specs.declared.elements.Element.{Element}
 use Rattle.geo_sketch.specs.declared.statements.Statement.{Statement}
 use Rattle.geo_sketch.specs.Assignments.{setting_of}
-use Rattle.geo_sketch.specs.Constructions.{AtNamed, IsBuilt, IsConstruction}
+use Rattle.geo_sketch.specs.Constructions.{AtNamed, IsConstruction}
+use Rattle.geo_sketch.proofs.ConstructionLaws.{IsBuilt}
 use Rattle.geo_sketch.specs.Lookups.{numbered, kind_at, IsLive}
 use Rattle.geo_sketch.specs.Sketches.{Drawing, IsDrawn, other, IsDefined, IsEntry, IsSketch}
 use Rattle.geo_sketch.proofs.NumberLaws.{number_found}

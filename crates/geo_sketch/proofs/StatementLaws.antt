@@ -14,7 +14,8 @@ use Rattle.geo_sketch.specs.Lookups.{def_at, kind_at, numbered}
 use Rattle.geo_sketch.specs.Needs.{AtStated}
 use Rattle.geo_sketch.specs.PlainStatements.{is_plain, blends, passes_through}
 use Rattle.geo_sketch.specs.Sketches.{IsPosed}
-use Rattle.geo_sketch.specs.Statements.{coordinates, parts_at}
+use Rattle.geo_sketch.specs.Statements.{parts_at}
+use Rattle.geo_triple.specs.Zero.{coordinates}
 use Rattle.geo_sketch.specs.Triples.{triple_at}
 use Rattle.geo_sketch.proofs.ClaimLaws.{neither}
 

@@ -6,10 +6,10 @@ use Rattle.std.proofs.lemmas.Bool.{cond_both, cases_eq, eqb-true, eqb-false, ne_
 use Rattle.std.proofs.lemmas.List.{get_or-set_same, get_or-set_other}
 use Rattle.geo_sketch.specs.declared.elements.Def.{Def}
 use Rattle.geo_sketch.specs.declared.elements.Element.{Element}
-use Rattle.geo_sketch.specs.Constructions.{Algebra, by_def, computed, AtNamed, IsBuilt, IsConstruction}
+use Rattle.geo_sketch.specs.Constructions.{Algebra, by_def, computed, AtNamed, IsConstruction}
+use Rattle.geo_sketch.proofs.ConstructionLaws.{IsBuilt, at_named, by_def_same, computed_step}
 use Rattle.geo_sketch.specs.Lookups.{numbered, Rises, IsLive}
 use Rattle.geo_sketch.specs.Tables.{place, Filled}
-use Rattle.geo_sketch.proofs.ConstructionLaws.{at_named, by_def_same, computed_step}
 use Rattle.geo_sketch.proofs.NumberLaws.{number_found, found_from, def_found}
 
 pub place_within : (es : List Element) (n : ℕ) (e : Element) → numbered es n ≡ Some e → place es n < length es

@@ -11,14 +11,18 @@ use Rattle.geo_triple.specs.Sums.{Sizes, of_sizes}
 use Rattle.geo_sketch.specs.declared.elements.Def.{Def}
 use Rattle.geo_sketch.specs.declared.elements.Def.TheVariants.{Free, Fixed, Cut, Blend, Cross}
 use Rattle.geo_sketch.specs.declared.elements.Element.{Element}
-use Rattle.geo_sketch.specs.Constructions.{Algebra, AgreeAt, by_def, computed, by_found, AtNamed, IsBuilt}
+use Rattle.geo_sketch.specs.Constructions.{Algebra, by_def, computed, by_found, AtNamed}
+use Rattle.geo_sketch.proofs.ConstructionLaws.{IsBuilt, both_named, by_def_same, computed_step}
 use Rattle.geo_sketch.specs.Lookups.{def_at, Rises}
 use Rattle.geo_sketch.specs.Assignments.{first_parameter, second_parameter}
 use Rattle.geo_sketch.specs.Heights.{heights_algebra, cut_heights, blend_heights}
 use Rattle.geo_sketch.specs.PlainHeights.{plain_height_algebra}
-use Rattle.geo_sketch.specs.Triples.{triple_algebra, of_coordinates}
+use Rattle.geo_sketch.specs.Triples.{triple_algebra, triple_by, of_coordinates}
 use Rattle.geo_sketch.specs.Dependence.{depends_algebra, depends_on}
-use Rattle.geo_sketch.proofs.ConstructionLaws.{both_named, by_def_same, computed_step}
+
+-- two algebras make the same of element n, whatever its definition
+abbrev pub AgreeAt : {X : Type 0} → Algebra X → Algebra X → ℕ → Type 0
+AgreeAt {X} A B n = (A.absent n ≡ B.absent n) × ((d : Def) (f : ℕ → X) → by_def A n d f ≡ by_def B n d f)
 
 or_right : (a b : Bool) → b ≡ true → (a || b) ≡ true
 or_right true b h = refl
@@ -128,3 +132,11 @@ plain_heights_agree v w n h g = (refl, by_definition)
     by_definition (Cut k) f = ap (cut_height (f k)) h
     by_definition (Blend k m) f = ap (blend_height (f k) (f m)) h
     by_definition (Cross k m) f = refl
+
+-- the triple of a definition, by the values of its own parameters
+pub triple_by_def : (v : ℕ → ℤ) (n : ℕ) (d : Def) (triples : ℕ → Triple) → by_def (triple_algebra v) n d triples ≡ triple_by d (v (first_parameter n)) (v (second_parameter n)) triples
+triple_by_def v n Free triples = refl
+triple_by_def v n (Fixed a b c) triples = refl
+triple_by_def v n (Cut k) triples = refl
+triple_by_def v n (Blend k m) triples = refl
+triple_by_def v n (Cross k m) triples = refl

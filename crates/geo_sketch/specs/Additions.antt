@@ -15,8 +15,9 @@ use Rattle.geo_sketch.specs.declared.changes.Delta.TheVariants as delta
 use Rattle.geo_sketch.specs.declared.changes.Refusal.{Refusal}
 use Rattle.geo_sketch.specs.declared.changes.Refusal.TheVariants as refusal
 use Rattle.geo_sketch.specs.Lookups.{find_named}
-use Rattle.geo_sketch.specs.PlainHeights.{new_plain_height, height_limit}
-use Rattle.geo_sketch.specs.Sketches.{Drawing, other, next_number, element_limit, parameter_limit, number_limit, parameter_count, element_parameters, IsSmall}
+use Rattle.geo_sketch.specs.PlainHeights.{new_plain_height}
+use Rattle.geo_sketch.specs.declared.limits.TheConstants.{HEIGHT_LIMIT, ELEMENT_LIMIT, PARAMETER_LIMIT, NUMBER_LIMIT}
+use Rattle.geo_sketch.specs.Sketches.{Drawing, other, next_number, parameter_count, element_parameters, IsSmall}
 
 abbrev pub same_kind : Kind → Kind → Bool
 same_kind Point Point = true
@@ -57,14 +58,14 @@ first_setting_of (spec.Cut k t) = setting.One t
 first_setting_of (spec.Blend k m t) = setting.One t
 first_setting_of (spec.Cross k m) = setting.None
 
--- one more element with this definition would pass 64 live elements, 24 live
--- parameters or the number 999
+-- one more element with this definition would pass the limit of live elements,
+-- of live parameters or of numbers
 abbrev pub is_full : Drawing → Def → Bool
-is_full drawing d = nat_lt element_limit (length drawing.elements + 1) || (nat_lt parameter_limit (sum_by element_parameters drawing.elements + parameter_count d) || nat_lt number_limit (next_number drawing + 1))
+is_full drawing d = nat_lt ELEMENT_LIMIT (length drawing.elements + 1) || (nat_lt PARAMETER_LIMIT (sum_by element_parameters drawing.elements + parameter_count d) || nat_lt NUMBER_LIMIT (next_number drawing + 1))
 
 -- the new element would be tall
 abbrev pub would_be_tall : Drawing → Def → Bool
-would_be_tall drawing d = nat_lt height_limit (new_plain_height drawing.elements (next_number drawing) d)
+would_be_tall drawing d = nat_lt HEIGHT_LIMIT (new_plain_height drawing.elements (next_number drawing) d)
 
 abbrev pub new_element : Drawing → List ℕ → Kind → Def → Element
 new_element drawing name kind d = record { number = next_number drawing; name = name; kind = kind; def = d }
@@ -83,7 +84,7 @@ adding_unless None drawing name kind s = adding drawing name kind (first_setting
 abbrev pub addition_of : Drawing → List ℕ → Kind → Spec → Result Delta Refusal
 addition_of drawing name kind s = adding_unless (find_named drawing.elements name) drawing name kind s
 
--- the numbers of a fixed triple lie from -1000 to 1000
+-- the numbers of a fixed triple are within the limit of a coordinate
 abbrev pub IsSmallSpec : Spec → Type 0
 IsSmallSpec (spec.Free x y) = Unit {0}
 IsSmallSpec (spec.Fixed a b c) = IsSmall a × IsSmall b × IsSmall c

@@ -1,7 +1,11 @@
 -- Parameters, assignments of whole numbers to them, and the current one of a sketch.
 use Rattle.std.specs.Prelude.{ℕ, ◌+◌, ◌*◌, ◌/◌, ◌==◌, if◌then◌else◌, ℤ, pos, unsigned_abs, List, [], ◌∷◌, slice_index_or}
+use Rattle.geo_sketch.specs.declared.elements.Def.{Def}
+use Rattle.geo_sketch.specs.declared.elements.Def.TheVariants.{Free, Fixed, Cut, Blend, Cross}
 use Rattle.geo_sketch.specs.declared.elements.Setting.{Setting}
 use Rattle.geo_sketch.specs.declared.elements.Setting.TheVariants as setting
+use Rattle.geo_sketch.specs.declared.parameters.OwnParameters.{OwnParameters}
+use Rattle.geo_sketch.specs.declared.parameters.OwnParameters.TheVariants as parameters
 
 -- ---- the parameters of element n, as far as it has them, and the element of a parameter
 abbrev pub first_parameter : ℕ → ℕ
@@ -12,6 +16,20 @@ second_parameter n = 2 * n + 1
 
 abbrev pub element_of_parameter : ℕ → ℕ
 element_of_parameter p = p / 2
+
+-- the parameters of element n with this definition
+abbrev pub own_parameters : ℕ → Def → List ℕ
+own_parameters n Free = first_parameter n ∷ second_parameter n ∷ []
+own_parameters n (Fixed a b c) = []
+own_parameters n (Cut k) = first_parameter n ∷ []
+own_parameters n (Blend k m) = first_parameter n ∷ []
+own_parameters n (Cross k m) = []
+
+-- in a list
+abbrev pub parameters_in : OwnParameters → List ℕ
+parameters_in parameters.None = []
+parameters_in (parameters.One p) = p ∷ []
+parameters_in (parameters.Two p q) = p ∷ q ∷ []
 
 -- ---- assignments
 -- a finite map from parameters to whole numbers; a parameter without an entry is 0

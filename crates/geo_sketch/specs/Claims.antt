@@ -12,7 +12,8 @@ use Rattle.geo_sketch.specs.declared.changes.Delta.{Delta}
 use Rattle.geo_sketch.specs.declared.changes.Delta.TheVariants as delta
 use Rattle.geo_sketch.specs.declared.changes.Refusal.{Refusal}
 use Rattle.geo_sketch.specs.declared.changes.Refusal.TheVariants as refusal
-use Rattle.geo_sketch.specs.Sketches.{Drawing, claim_limit}
+use Rattle.geo_sketch.specs.Sketches.{Drawing}
+use Rattle.geo_sketch.specs.declared.limits.TheConstants.{CLAIM_LIMIT}
 use Rattle.geo_sketch.specs.Additions.{same_kind}
 use Rattle.geo_sketch.specs.Lookups.{find_named}
 
@@ -108,7 +109,7 @@ claiming_ordered claims (Some c) = if is_claimed claims c then Err refusal.Repea
 
 abbrev pub claiming : List Statement → Result Statement Refusal → Result Delta Refusal
 claiming claims (Err r) = Err r
-claiming claims (Ok s) = if nat_le claim_limit (length claims) then Err refusal.Full else claiming_ordered claims (in_order s)
+claiming claims (Ok s) = if nat_le CLAIM_LIMIT (length claims) then Err refusal.Full else claiming_ordered claims (in_order s)
 
 -- the change that a claim makes, or the first refusal that applies
 abbrev pub claim_of : Drawing → Said → Result Delta Refusal

@@ -58,11 +58,3 @@ AtNamed (Cross k m) P = P k × P m
 pub record IsConstruction (es : List Element) : Type 0 where
   pub rising : Rises 0 es
   pub named : (n : ℕ) (e : Element) → numbered es n ≡ Some e → AtNamed e.def (λ k. (k < n) × IsLive es k)
-
--- each definition names smaller numbers alone
-abbrev pub IsBuilt : List Element → Type 0
-IsBuilt es = (n : ℕ) (d : Def) → def_at es n ≡ Some d → AtNamed d (λ k. k < n)
-
--- two algebras make the same of element n, whatever its definition
-abbrev pub AgreeAt : {X : Type 0} → Algebra X → Algebra X → ℕ → Type 0
-AgreeAt {X} A B n = (A.absent n ≡ B.absent n) × ((d : Def) (f : ℕ → X) → by_def A n d f ≡ by_def B n d f)

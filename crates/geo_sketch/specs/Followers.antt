@@ -6,8 +6,9 @@ use Rattle.geo_sketch.specs.declared.elements.Kind.{Kind}
 use Rattle.geo_sketch.specs.declared.elements.Def.{Def}
 use Rattle.geo_sketch.specs.declared.elements.Def.TheVariants.{Free, Fixed, Cut, Blend, Cross}
 use Rattle.geo_sketch.specs.declared.elements.Element.{Element}
-use Rattle.geo_sketch.specs.PlainHeights.{new_plain_height, height_limit}
-use Rattle.geo_sketch.specs.Sketches.{other, element_parameters, parameter_count, element_limit, parameter_limit, number_limit}
+use Rattle.geo_sketch.specs.PlainHeights.{new_plain_height}
+use Rattle.geo_sketch.specs.declared.limits.TheConstants.{COORDINATE_LIMIT, HEIGHT_LIMIT, ELEMENT_LIMIT, PARAMETER_LIMIT, NUMBER_LIMIT}
+use Rattle.geo_sketch.specs.Sketches.{other, element_parameters, parameter_count}
 use Rattle.geo_sketch.specs.Lookups.{numbered}
 use Rattle.geo_sketch.specs.Additions.{same_kind}
 
@@ -26,7 +27,7 @@ can_refer es n wanted k = nat_lt k n && has_kind (numbered es k) wanted
 
 -- the test of `IsSmall`
 abbrev pub is_small : ℤ → Bool
-is_small z = nat_le (unsigned_abs z) 1000
+is_small z = nat_le (unsigned_abs z) COORDINATE_LIMIT
 
 -- element n can have this kind and definition: the test of `IsDefined`
 abbrev pub can_be_defined : List Element → ℕ → Kind → Def → Bool
@@ -38,10 +39,10 @@ can_be_defined es n kind (Cross k m) = can_refer es n (other kind) k && can_refe
 
 -- there is room for it
 abbrev pub has_room : List Element → ℕ → Def → Bool
-has_room es n d = nat_lt n number_limit && (nat_lt (length es) element_limit && nat_le (sum_by element_parameters es + parameter_count d) parameter_limit)
+has_room es n d = nat_lt n NUMBER_LIMIT && (nat_lt (length es) ELEMENT_LIMIT && nat_le (sum_by element_parameters es + parameter_count d) PARAMETER_LIMIT)
 
 abbrev pub can_follow : List Element → ℕ → Kind → Def → Bool
-can_follow es n kind d = are_below es n && (has_room es n d && (can_be_defined es n kind d && nat_le (new_plain_height es n d) height_limit))
+can_follow es n kind d = are_below es n && (has_room es n d && (can_be_defined es n kind d && nat_le (new_plain_height es n d) HEIGHT_LIMIT))
 
 -- each element can follow those that stand before it, the earlier ones first
 abbrev pub can_all_follow : List Element → List Element → Bool

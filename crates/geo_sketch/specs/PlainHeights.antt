@@ -1,10 +1,11 @@
 -- The plain height of an element: one bound for all coordinates of its triple, where each
 -- parameter is in absolute value at most its magnitude. It alone decides whether an
 -- element is tall.
-use Rattle.std.specs.Prelude.{ℕ, ◌<◌, ◌^◌, max, unsigned_abs, List}
+use Rattle.std.specs.Prelude.{ℕ, ◌<◌, max, unsigned_abs, List}
 use Rattle.geo_triple.specs.Height.{cross_height, blend_height, cut_height}
 use Rattle.geo_sketch.specs.declared.elements.Def.{Def}
 use Rattle.geo_sketch.specs.declared.elements.Element.{Element}
+use Rattle.geo_sketch.specs.declared.limits.TheConstants.{HEIGHT_LIMIT}
 use Rattle.geo_sketch.specs.Constructions.{Algebra, by_def, computed}
 use Rattle.geo_sketch.specs.Assignments.{first_parameter, second_parameter}
 
@@ -27,14 +28,9 @@ plain_height_of es n m = computed (plain_height_algebra m) es n
 abbrev pub threes : ℕ → ℕ
 threes p = 3
 
--- the greatest plain height of an element at magnitude 3, and the greatest height of one
--- that is shown
-abbrev pub height_limit : ℕ
-height_limit = 2 ^ 41
-
--- the element passes it
+-- the element passes the limit
 abbrev pub IsTall : List Element → ℕ → Type 0
-IsTall es n = height_limit < plain_height_of es n threes
+IsTall es n = HEIGHT_LIMIT < plain_height_of es n threes
 
 -- the plain height at magnitude 3 that a new element with this definition would have
 abbrev pub new_plain_height : List Element → ℕ → Def → ℕ

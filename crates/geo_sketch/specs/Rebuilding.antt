@@ -9,7 +9,8 @@ use Rattle.geo_sketch.specs.declared.elements.Setting.TheVariants as setting
 use Rattle.geo_sketch.specs.declared.elements.Element.{Element}
 use Rattle.geo_sketch.specs.Followers.{can_all_follow}
 use Rattle.geo_sketch.specs.PlainHeights.{IsTall}
-use Rattle.geo_sketch.specs.Sketches.{Drawing, IsDefined, element_parameters, element_limit, parameter_limit, number_limit}
+use Rattle.geo_sketch.specs.Sketches.{Drawing, IsDefined, element_parameters}
+use Rattle.geo_sketch.specs.declared.limits.TheConstants.{ELEMENT_LIMIT, PARAMETER_LIMIT, NUMBER_LIMIT}
 use Rattle.geo_sketch.specs.Lookups.{numbered, Rises}
 
 -- the letter e, and the number in decimal
@@ -21,16 +22,16 @@ abbrev pub listed : ℕ × Kind × Def → Element
 listed x = record { number = x.0; name = number_name x.0; kind = x.1; def = x.2 }
 
 -- ---- which elements make a sketch
--- the numbers rise and are at most 999, each definition names earlier elements of
--- fitting kinds, fixed triples are not zero and their coordinates lie from -1000 to
--- 1000, no element is tall, and there are at most 64 elements and 24 parameters
+-- the numbers rise and are below the limit, each definition names earlier elements of
+-- fitting kinds, fixed triples are not zero and their coordinates are within the
+-- limit, no element is tall, and there are no more elements and parameters than may be
 pub record AreSound (es : List Element) : Type 0 where
   pub rising : Rises 0 es
-  pub numbers_room : (n : ℕ) (e : Element) → numbered es n ≡ Some e → n < number_limit
+  pub numbers_room : (n : ℕ) (e : Element) → numbered es n ≡ Some e → n < NUMBER_LIMIT
   pub defined : (n : ℕ) (e : Element) → numbered es n ≡ Some e → IsDefined es e.number e.kind e.def
   pub low : (n : ℕ) (e : Element) → numbered es n ≡ Some e → ¬ IsTall es n
-  pub elements_room : length es ≤ element_limit
-  pub parameters_room : sum_by element_parameters es ≤ parameter_limit
+  pub elements_room : length es ≤ ELEMENT_LIMIT
+  pub parameters_room : sum_by element_parameters es ≤ PARAMETER_LIMIT
 
 -- computed: each can follow those before it
 abbrev pub is_sound : List Element → Bool

@@ -1,9 +1,5 @@
--- Eight assignments at which statements are tried.
+-- Assignments at which statements are tried.
 use Rattle.std.specs.Prelude.{ℕ, ◌+◌, ◌*◌, ◌^◌, ◌%◌, ℤ, pos, ◌-ℤ◌}
-
--- positions are below it
-abbrev pub sample_count : ℕ
-sample_count = 8
 
 -- the value of parameter p at sample position s, from -3 to 3
 abbrev pub sample_value : ℕ → ℕ → ℤ

@@ -7,6 +7,7 @@ use Rattle.geo_sketch.specs.declared.elements.Def.TheVariants.{Free, Fixed, Cut,
 use Rattle.geo_sketch.specs.declared.elements.Setting.{Setting}
 use Rattle.geo_sketch.specs.declared.elements.Setting.TheVariants as setting
 use Rattle.geo_sketch.specs.declared.elements.Element.{Element}
+use Rattle.geo_sketch.specs.declared.limits.TheConstants.{CLAIM_LIMIT, COORDINATE_LIMIT, ELEMENT_LIMIT, NUMBER_LIMIT, PARAMETER_LIMIT}
 use Rattle.geo_sketch.specs.declared.statements.Statement.{Statement}
 use Rattle.geo_sketch.specs.declared.statements.Statement.TheVariants.{Null, Same, On, Triple}
 use Rattle.geo_sketch.specs.Assignments.{setting_of}
@@ -25,20 +26,6 @@ pub record Drawing : Type 0 where
 abbrev pub next_number : Drawing → ℕ
 next_number drawing = length drawing.settings
 
--- ---- limits
-abbrev pub element_limit : ℕ
-element_limit = 64
-
-abbrev pub parameter_limit : ℕ
-parameter_limit = 24
-
--- numbers are below it
-abbrev pub number_limit : ℕ
-number_limit = 1000
-
-abbrev pub claim_limit : ℕ
-claim_limit = 60
-
 -- ---- the empty sketch
 abbrev pub blank : Drawing
 blank = record { elements = []; settings = []; claims = [] }
@@ -52,12 +39,12 @@ other Line = Point
 abbrev pub Refers : List Element → ℕ → Kind → ℕ → Type 0
 Refers es n kind k = (k < n) × (kind_at es k ≡ Some kind)
 
--- from -1000 to 1000
+-- at most the limit of a coordinate
 abbrev pub IsSmall : ℤ → Type 0
-IsSmall z = unsigned_abs z ≤ 1000
+IsSmall z = unsigned_abs z ≤ COORDINATE_LIMIT
 
--- a definition refers to earlier elements of fitting kinds; fixed numbers lie from
--- -1000 to 1000 and are not all 0
+-- a definition refers to earlier elements of fitting kinds; fixed numbers are
+-- within the limit of a coordinate and not all 0
 abbrev pub IsDefined : List Element → ℕ → Kind → Def → Type 0
 IsDefined es n kind Free = Unit {0}
 IsDefined es n kind (Fixed a b c) = IsSmall a × IsSmall b × IsSmall c × (0 < unsigned_abs a + unsigned_abs b + unsigned_abs c)
@@ -107,10 +94,10 @@ pub record IsSketch (es : List Element) (ss : List Setting) (cs : List Statement
   pub each : (n : ℕ) → IsEntry es (numbered es n) (setting_of ss n)
   pub apart : (n m : ℕ) (e f : Element) → numbered es n ≡ Some e → numbered es m ≡ Some f → e.name ≡ f.name → n ≡ m
   pub posed : ArePosed es cs
-  pub elements_room : length es ≤ element_limit
-  pub parameters_room : sum_by element_parameters es ≤ parameter_limit
-  pub numbers_room : length ss ≤ number_limit
-  pub claims_room : length cs ≤ claim_limit
+  pub elements_room : length es ≤ ELEMENT_LIMIT
+  pub parameters_room : sum_by element_parameters es ≤ PARAMETER_LIMIT
+  pub numbers_room : length ss ≤ NUMBER_LIMIT
+  pub claims_room : length cs ≤ CLAIM_LIMIT
 
 -- what is drawn is a well-formed sketch
 abbrev pub IsDrawn : Drawing → Type 0

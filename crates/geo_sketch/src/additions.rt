@@ -1,7 +1,8 @@
 //! What an addition makes, or the first refusal that applies.
 
 ghost use Rattle.std.specs.Prelude.{◌≡◌, ℕ, ◌+◌, ◌≤◌, ◌<◌, length, sum_by, IfOk};
-ghost use Rattle.geo_sketch.specs.Sketches.{element_limit, parameter_count, element_parameters, other, values_in};
+ghost use Rattle.geo_sketch.specs.Sketches.{element_parameters, other, values_in};
+ghost use Rattle.geo_sketch.specs.declared.limits.TheConstants.{ELEMENT_LIMIT};
 ghost use Rattle.geo_sketch.specs.Drags.{is_fixed_for};
 ghost use Rattle.geo_sketch.specs.Additions.{definition_of, first_setting_of, referred, both_referred};
 ghost use Rattle.geo_sketch.specs.Lookups.{find_named};
@@ -76,23 +77,12 @@ pub(crate) fn first_setting(spec: &Spec) -> Setting
     }
 }
 
-/// How many parameters an element with this definition has.
-pub(crate) fn count_parameters(def: &Def) -> usize
-    ensures { result ≡ parameter_count def.now }
-{
-    match def {
-        Def::Free => 2,
-        Def::Cut(_) | Def::Blend(_, _) => 1,
-        Def::Fixed(_, _, _) | Def::Cross(_, _) => 0,
-    }
-}
-
 /// Whether an element with this definition has no parameters, or another number of
 /// them than these values.
 pub(crate) fn is_fixed(def: &Def, setting: Setting) -> bool
     ensures { result ≡ is_fixed_for def.now setting }
 {
-    let count = count_parameters(def);
+    let count = def.parameter_count();
     count == 0 || count_values(setting) != count
 }
 
@@ -108,12 +98,12 @@ fn count_values(setting: Setting) -> usize
 
 /// How many parameters the elements have.
 pub(crate) fn count_all_parameters(elements: &[Element]) -> usize
-    requires { length elements.now ≤ element_limit }
+    requires { length elements.now ≤ ELEMENT_LIMIT }
     ensures { result ≡ sum_by element_parameters elements.now }
 {
     let mut count = 0;
     for element in elements {
-        count += count_parameters(&element.def);
+        count += element.def.parameter_count();
     }
     count
 }

@@ -2,6 +2,7 @@
 
 use crate::elements::{Element, Setting};
 use crate::statements::Statement;
+use std::alloc::{AllocError, AllocFailed};
 
 /// A change that was made, with what is needed to take it back.
 #[derive(Clone, Copy, Debug)]
@@ -52,6 +53,18 @@ pub enum Refusal {
 /// There was no memory.
 #[derive(Clone, Copy, PartialEq, Eq, Debug)]
 pub struct NoMemory;
+
+impl From<AllocError> for NoMemory {
+    fn from(_error: AllocError) -> NoMemory {
+        NoMemory
+    }
+}
+
+impl<T: Drop> From<AllocFailed<T>> for NoMemory {
+    fn from(_failed: AllocFailed<T>) -> NoMemory {
+        NoMemory
+    }
+}
 
 /// Why a call that may need memory did nothing.
 #[derive(Clone, Copy, PartialEq, Eq, Debug)]

@@ -75,7 +75,8 @@ fn is_name_text(bytes: &[u8]) -> bool
     }
 }
 
-fn are_alphanumeric(bytes: &[u8]) -> bool
+/// Whether all bytes are ASCII letters or digits.
+pub fn are_alphanumeric(bytes: &[u8]) -> bool
     ensures { result ≡ list_all is_ascii_alphanumeric bytes.now }
 {
     match bytes {

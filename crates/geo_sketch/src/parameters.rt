@@ -3,6 +3,14 @@
 ghost use Rattle.std.specs.Prelude.{◌≡◌};
 ghost use Rattle.geo_sketch.specs.Assignments.{element_of_parameter, first_parameter, second_parameter};
 
+/// The parameters of an element, by rising number.
+#[derive(Clone, Copy, PartialEq, Eq, Debug)]
+pub enum OwnParameters {
+    None,
+    One(u64),
+    Two(u64, u64),
+}
+
 /// The first parameter of the element with this number, as far as it has one.
 pub fn first_parameter(number: u32) -> u64
     ensures { result ≡ first_parameter number }

@@ -2,21 +2,21 @@
 
 ghost use Rattle.std.specs.Prelude.{◌≡◌, ℕ, ◌≤◌, length, All, slice_index_or, max, unsigned_abs};
 ghost use Rattle.geo_sketch.specs.Constructions.{by_def, AtNamed, IsConstruction};
-ghost use Rattle.geo_sketch.specs.PlainHeights.{plain_height_algebra, plain_height_of, threes, height_limit, new_plain_height};
-ghost use Rattle.geo_sketch.specs.Sketches.{element_limit};
+ghost use Rattle.geo_sketch.specs.PlainHeights.{plain_height_algebra, plain_height_of, threes, new_plain_height};
+ghost use Rattle.geo_sketch.specs.declared.limits.TheConstants.{HEIGHT_LIMIT, ELEMENT_LIMIT};
 ghost use Rattle.geo_sketch.specs.Tables.{place, Filled};
 ghost use Rattle.geo_sketch.specs.Lookups.{IsLive};
 
 use crate::elements::{Def, Element};
 use crate::limits::ELEMENT_LIMIT;
-use crate::lookups::place_of;
+use crate::lookups::entry_at;
 
 /// The plain height that a new element with this number and definition has at
 /// magnitude 3.
 pub(crate) fn plain_height_of_new(elements: &[Element], number: u32, def: &Def) -> u128
-    requires room { length elements.now ≤ element_limit }
+    requires room { length elements.now ≤ ELEMENT_LIMIT }
     requires construction { IsConstruction elements.now }
-    requires low { (n : ℕ) → plain_height_of elements.now n threes ≤ height_limit }
+    requires low { (n : ℕ) → plain_height_of elements.now n threes ≤ HEIGHT_LIMIT }
     requires live { AtNamed def.now (IsLive elements.now) }
     ensures { result ≡ new_plain_height elements.now number def.now }
 {
@@ -26,11 +26,11 @@ pub(crate) fn plain_height_of_new(elements: &[Element], number: u32, def: &Def) 
 
 /// The plain heights of all elements, by their places.
 fn plain_heights_of(elements: &[Element]) -> [u64; ELEMENT_LIMIT]
-    requires room { length elements.now ≤ element_limit }
+    requires room { length elements.now ≤ ELEMENT_LIMIT }
     requires construction { IsConstruction elements.now }
-    requires low { (n : ℕ) → plain_height_of elements.now n threes ≤ height_limit }
+    requires low { (n : ℕ) → plain_height_of elements.now n threes ≤ HEIGHT_LIMIT }
     ensures filled { Filled (plain_height_algebra threes) elements.now 0 result (length elements.now) }
-    ensures low { All (λ h. h ≤ height_limit) result }
+    ensures low { All (λ h. h ≤ HEIGHT_LIMIT) result }
 {
     let mut heights = [0; ELEMENT_LIMIT];
     for i in 0..elements.len() {
@@ -42,7 +42,7 @@ fn plain_heights_of(elements: &[Element]) -> [u64; ELEMENT_LIMIT]
 
 /// The plain height that a definition makes of those in the table.
 fn plain_height_by(elements: &[Element], heights: &[u64], number: u32, def: &Def) -> u128
-    requires { All (λ h. h ≤ height_limit) heights.now }
+    requires { All (λ h. h ≤ HEIGHT_LIMIT) heights.now }
     ensures { result ≡ by_def (plain_height_algebra threes) number def.now (λ k. slice_index_or heights.now (place elements.now k) 0) }
 {
     match def {
@@ -59,14 +59,11 @@ fn plain_height_by(elements: &[Element], heights: &[u64], number: u32, def: &Def
 
 /// The plain height of the element with this number, as far as the table has it.
 fn plain_height_at(elements: &[Element], heights: &[u64], number: u32) -> u128
-    requires { All (λ h. h ≤ height_limit) heights.now }
+    requires { All (λ h. h ≤ HEIGHT_LIMIT) heights.now }
     ensures value { result ≡ slice_index_or heights.now (place elements.now number) 0 }
-    ensures low { result ≤ height_limit }
+    ensures low { result ≤ HEIGHT_LIMIT }
 {
-    match heights.get(place_of(elements, number)) {
-        Some(height) => *height as u128,
-        None => 0,
-    }
+    u128::from(entry_at(elements, heights, number, 0))
 }
 
 fn largest(a: i64, b: i64, c: i64) -> u128

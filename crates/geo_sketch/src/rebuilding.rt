@@ -5,13 +5,13 @@ ghost use Rattle.std.specs.Option.{SomeIff};
 ghost use Rattle.geo_sketch.specs.Constructions.{AtNamed};
 ghost use Rattle.geo_sketch.specs.Followers.{are_below, can_be_defined, can_follow, can_refer, has_kind, has_room, is_small};
 ghost use Rattle.geo_sketch.specs.Rebuilding.{at_zero, listed, number_name, rebuilt, settings_from, zeros, AreSound};
-ghost use Rattle.geo_sketch.specs.Sketches.{number_limit};
+ghost use Rattle.geo_sketch.specs.declared.limits.TheConstants.{NUMBER_LIMIT};
 ghost use Rattle.geo_sketch.specs.Lookups.{numbered, Rises};
 
-use crate::additions::{count_all_parameters, count_parameters, opposite};
+use crate::additions::{count_all_parameters, opposite};
 use crate::changes::NoMemory;
 use crate::elements::{Def, Element, Kind, Setting};
-use crate::limits::{ELEMENT_LIMIT, HEIGHT_LIMIT, NUMBER_LIMIT, PARAMETER_LIMIT};
+use crate::limits::{COORDINATE_LIMIT, ELEMENT_LIMIT, HEIGHT_LIMIT, NUMBER_LIMIT, PARAMETER_LIMIT};
 use crate::lookups::find_by_number;
 use crate::names::Name;
 use crate::plain_heights::plain_height_of_new;
@@ -107,7 +107,7 @@ fn has_room_for(elements: &[Element], number: u32, def: &Def) -> bool
 {
     (number as usize) < NUMBER_LIMIT
         && elements.len() < ELEMENT_LIMIT
-        && count_all_parameters(elements) + count_parameters(def) <= PARAMETER_LIMIT
+        && count_all_parameters(elements) + def.parameter_count() <= PARAMETER_LIMIT
 }
 
 fn is_definable(elements: &[Element], number: u32, kind: Kind, def: &Def) -> bool
@@ -143,12 +143,12 @@ fn is_referable(elements: &[Element], number: u32, wanted: Kind, k: u32) -> bool
 fn has_small(coordinate: i64) -> bool
     ensures { result ≡ is_small coordinate }
 {
-    coordinate.unsigned_abs() <= 1000
+    coordinate.unsigned_abs() <= COORDINATE_LIMIT
 }
 
 /// The name of element n, which is the letter e and the number.
 fn spell_number(n: u32) -> Option<Name>
-    requires { n < number_limit }
+    requires { n < NUMBER_LIMIT }
     ensures { result ≡ Some (number_name n) }
 {
     let ones = b'0' + (n % 10) as u8;

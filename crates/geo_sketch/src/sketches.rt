@@ -8,15 +8,16 @@ ghost use Rattle.geo_sketch.specs.Changes.{applied, LeadsFrom, LeadsTo, makes_lo
 ghost use Rattle.geo_sketch.specs.Constructions.{AtNamed};
 ghost use Rattle.geo_sketch.specs.Dependence.{depends_on};
 ghost use Rattle.geo_sketch.specs.Drags.{drag_of};
+ghost use Rattle.geo_sketch.specs.Needs.{AtStated, needs};
 ghost use Rattle.geo_sketch.specs.PlainStatements.{is_plain};
 ghost use Rattle.geo_sketch.specs.Drops.{drop_of, is_used};
 ghost use Rattle.geo_sketch.specs.Lookups.{IsLive, find_named, number_named};
 ghost use Rattle.geo_sketch.specs.Additions.{addition_of, is_full, would_be_tall, IsSmallSpec};
 ghost use Rattle.geo_sketch.specs.declared.changes.Refusal.{Refusal as RefusalWord};
 
-use crate::additions::{count_all_parameters, count_parameters, define, first_setting, is_fixed};
+use crate::additions::{count_all_parameters, define, first_setting, is_fixed};
 use crate::changes::{Delta, NoMemory, Refusal, Stop};
-use crate::claims::{find_meaning, has_claim, order};
+use crate::claims::{find_meaning, has_claim};
 use crate::dependence::find_dependence;
 use crate::edits::{exchange_kinds, put_back, remove_number};
 use crate::elements::{Def, Element, Kind, Setting, Spec};
@@ -180,7 +181,7 @@ impl Sketch {
         ensures posed { IfOk result (IsPosed self.now.elements) }
     {
         match find_meaning(&self.elements, said) {
-            Ok(statement) => match order(&statement) {
+            Ok(statement) => match statement.in_order() {
                 Some(statement) => Ok(statement),
                 None => Err(Refusal::Repeat),
             },
@@ -227,6 +228,22 @@ impl Sketch {
         ensures { result ≡ depends_on self.now.elements n on }
     {
         find_dependence(&self.elements, n, on)
+    }
+
+    /// Whether the statement names an element that depends on element n.
+    pub fn needs(&self, statement: &Statement, n: u32) -> bool
+        requires { AtStated statement.now (IsLive self.now.elements) }
+        ensures { result ≡ needs self.now.elements statement.now n }
+    {
+        match statement {
+            Statement::Null(a) => self.depends(*a, n),
+            Statement::Same(a, b) | Statement::On(a, b) => {
+                self.depends(*a, n) || self.depends(*b, n)
+            }
+            Statement::Triple(a, b, c) => {
+                self.depends(*a, n) || self.depends(*b, n) || self.depends(*c, n)
+            }
+        }
     }
 
     /// Whether the statement holds by construction: one of two incident elements is
@@ -366,7 +383,7 @@ impl Sketch {
         if self.claims.len() >= CLAIM_LIMIT {
             return Err(Refusal::Full);
         }
-        match order(&statement) {
+        match statement.in_order() {
             Some(claim) => {
                 if has_claim(&self.claims, &claim) {
                     Err(Refusal::Repeat)
@@ -464,7 +481,7 @@ impl Sketch {
         ensures { result ≡ is_full self.now def.now }
     {
         self.elements.len() + 1 > ELEMENT_LIMIT
-            || count_all_parameters(&self.elements) + count_parameters(def) > PARAMETER_LIMIT
+            || count_all_parameters(&self.elements) + def.parameter_count() > PARAMETER_LIMIT
             || self.settings.len() + 1 > NUMBER_LIMIT
     }
 

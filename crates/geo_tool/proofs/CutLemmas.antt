@@ -1,5 +1,5 @@
 -- Lines that are cut expand as whole ones do.
-use Rattle.std.proofs.Common.{◌≡◌, ◌∙◌, refl, sym, ap, ℕ, zero, suc, ◌++◌, ◌≤◌, ◌<◌, Bool, true, false, ◌⊎◌, inl, inr, Option, None, Some, is_some, List, [], ◌∷◌, length, map, take, if◌then◌else◌, arith}
+use Rattle.std.proofs.Common.{◌≡◌, ◌∙◌, refl, sym, ap, ℕ, ◌++◌, ◌≤◌, ◌<◌, Bool, true, false, ◌⊎◌, inl, inr, Option, None, Some, is_some, List, [], ◌∷◌, length, map, take, if◌then◌else◌, arith}
 use Rattle.std.specs.Prelude.{unwrap_or, option_map, nat_lt, nat_eq, is_none, codes, ◌&&◌}
 use Rattle.std.specs.Str.{bytes_eq}
 use Rattle.std.proofs.lemmas.Bool.Decides.{nat_tests}

@@ -5,6 +5,8 @@ use Rattle.std.specs.List.{list_all}
 use Rattle.geo_sketch.specs.Names.{is_name}
 use Rattle.geo_parse.specs.Words.{words}
 use Rattle.geo_parse.specs.Grammar.{is_plain}
+use Rattle.geo_parse.specs.declared.limits.TheConstants.{LINE_LIMIT}
+use Rattle.geo_tool.specs.declared.limits.TheConstants.{TOOL_LIMIT}
 
 -- a tool: its name, how many words it takes, and the lines of its body
 pub record Definition : Type 0 where
@@ -14,7 +16,7 @@ pub record Definition : Type 0 where
 
 -- a line with more than 200 bytes, or with a byte that is not plain
 abbrev pub is_ordinary : List ℕ → Bool
-is_ordinary line = nat_lt 200 (length line) || not (list_all is_plain line)
+is_ordinary line = nat_lt LINE_LIMIT (length line) || not (list_all is_plain line)
 
 -- the words by which a line may be about a tool: none where it is ordinary
 unfoldable pub telling_words : List ℕ → List (List ℕ)
@@ -30,9 +32,9 @@ abbrev pub arity_of : List ℕ → Option ℕ
 arity_of (d ∷ []) = if nat_le 48 d && nat_le d 56 then Some (d - 48) else None
 arity_of word = None
 
--- the name may be a further tool's: no tool has it, and there are fewer than 40
+-- the name may be a further tool's: no tool has it, and there are fewer than the limit
 abbrev pub may_be_defined : List Definition → List ℕ → Bool
-may_be_defined tools name = is_name name && (is_none (tool_named tools name) && nat_lt (length tools) 40)
+may_be_defined tools name = is_name name && (is_none (tool_named tools name) && nat_lt (length tools) TOOL_LIMIT)
 
 -- the tool whose body the words open: `tool`, its name, and how many words it takes
 abbrev pub opened_by : List Definition → List (List ℕ) → Option Definition

@@ -1,9 +1,10 @@
 //! Laws of the expansion of a script.
 
-ghost use Rattle.std.specs.Prelude.{◌≡◌, ◌*◌, ◌≤◌, ◌++◌, ◌∷◌, [], ℕ, List, false, length, map, take};
+ghost use Rattle.std.specs.Prelude.{◌≡◌, ◌+◌, ◌*◌, ◌≤◌, ◌++◌, ◌∷◌, [], ℕ, List, false, length, map, take};
 ghost use Rattle.std.specs.List.{AllByRecursion};
 ghost use Rattle.geo_parse.specs.Words.{words};
 ghost use Rattle.geo_tool.specs.Expansion.{after_line, bench_after, begins_tool, empty_bench, expansion_from, expansion_of, given_by};
+ghost use Rattle.geo_parse.specs.declared.limits.TheConstants.{LINE_LIMIT};
 
 /// Lines that are fed one by one to a new expander give the expansion of their list: each
 /// adds what it gives to the expansion of those before it. A body that is open at the end
@@ -30,5 +31,5 @@ pub fn few_lines_given()
 /// Lines of which no more than the first 201 bytes are kept expand as whole ones do, as far as
 /// the first 201 bytes of each line that is given.
 pub fn cut_lines_expand_alike()
-    ensures { (lines : List (List ℕ)) → map (take 201) (expansion_of (map (take 201) lines)) ≡ map (take 201) (expansion_of lines) }
+    ensures { (lines : List (List ℕ)) → map (take (LINE_LIMIT + 1)) (expansion_of (map (take (LINE_LIMIT + 1)) lines)) ≡ map (take (LINE_LIMIT + 1)) (expansion_of lines) }
 {}

@@ -5,6 +5,7 @@
 mod expanded;
 mod expander;
 mod laws;
+mod limits;
 #[cfg(test)]
 mod tests;
 mod tools;
@@ -13,3 +14,4 @@ mod uses;
 pub use expanded::Expanded;
 pub use expander::Expander;
 pub use laws::{cut_lines_expand_alike, fed_one_by_one, few_lines_given, own_expansion};
+pub use limits::TOOL_LIMIT;

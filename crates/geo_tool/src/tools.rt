@@ -6,17 +6,13 @@ ghost use Rattle.geo_parse.specs.Grammar.{is_plain};
 ghost use Rattle.std.specs.List.{list_all};
 ghost use Rattle.geo_tool.specs.Tools.{arity_of, is_end, is_ordinary, opened_by, telling_words, tool_named};
 ghost use Rattle.geo_tool.specs.Expansion.{with_line};
+ghost use Rattle.geo_parse.specs.declared.limits.TheConstants.{LINE_LIMIT};
 
-use geo_parse::{Words, split_words};
+use crate::limits::TOOL_LIMIT;
+use geo_parse::{LINE_LIMIT, Words, are_plain, split_words};
 use geo_sketch::Name;
 use std::alloc::{AllocError, Global};
 use std::marker::Model;
-
-/// The greatest number of tools of a script.
-const TOOL_LIMIT: usize = 40;
-
-/// The greatest number of bytes of a line that can be about a tool.
-const MAX_LEN: usize = 200;
 
 /// A tool: its name, how many further words a use of it has, and the lines of its body.
 #[derive(Drop)]
@@ -68,7 +64,7 @@ pub fn find_tool<'a>(tools: &'a [Tool], name: &[u8]) -> Option<&'a Tool>
 #[tactic(auto, unfolding(crate::specs::Tools::telling_words))]
 pub fn telling_words(line: &[u8]) -> Words<'_>
     ensures words { words_left result ≡ telling_words line.now }
-    ensures few { length (words_left result) ≤ 200 }
+    ensures few { length (words_left result) ≤ LINE_LIMIT }
 {
     if is_ordinary(line) {
         split_words(&line[..0])
@@ -81,19 +77,7 @@ pub fn telling_words(line: &[u8]) -> Words<'_>
 pub fn is_ordinary(line: &[u8]) -> bool
     ensures { result ≡ is_ordinary line.now }
 {
-    line.len() > MAX_LEN || !are_plain(line)
-}
-
-fn are_plain(bytes: &[u8]) -> bool
-    ensures { result ≡ list_all is_plain bytes.now }
-{
-    bytes.iter().all(|b| is_plain(*b))
-}
-
-fn is_plain(b: u8) -> bool
-    ensures { result ≡ is_plain b }
-{
-    b == b'\t' || (b' '..=b'~').contains(&b)
+    line.len() > LINE_LIMIT || !are_plain(line)
 }
 
 /// The tool whose body the words open, still without lines.

@@ -6,11 +6,12 @@ ghost use Rattle.std.specs.Char.{is_ascii_alphanumeric};
 ghost use Rattle.geo_parse.specs.WordsLeft.{words_left};
 ghost use Rattle.geo_tool.specs.Asked.{asked_line, asked_lines, asked_word};
 ghost use Rattle.geo_tool.specs.Uses.{changed_word, is_own_name, numbered_word, used_by};
+ghost use Rattle.geo_parse.specs.declared.limits.TheConstants.{LINE_LIMIT};
 
 use crate::expanded::Expanded;
 use crate::tools::{Tool, find_tool, is_ordinary};
 use geo_parse::{Words, split_words};
-use geo_sketch::Name;
+use geo_sketch::{Name, are_alphanumeric};
 use std::alloc::{AllocError, Global};
 
 /// A use of a tool: the body of the tool, the name that is put before the tool's own
@@ -24,7 +25,7 @@ pub struct Use<'a> {
 
 /// The use that the words ask for.
 pub fn read_use<'a>(tools: &'a [Tool], words: Words<'a>) -> Option<Use<'a>>
-    requires { length (words_left words) ≤ 200 }
+    requires { length (words_left words) ≤ LINE_LIMIT }
     ensures { option_map asked_lines result ≡ used_by tools.now (words_left words.entry) }
 {
     let mut left = words;
@@ -132,12 +133,6 @@ fn is_own_name(bytes: &[u8]) -> bool
         [] => false,
         [first, rest @ ..] => first.is_ascii_alphabetic() && are_alphanumeric(rest),
     }
-}
-
-fn are_alphanumeric(bytes: &[u8]) -> bool
-    ensures { result ≡ list_all is_ascii_alphanumeric bytes.now }
-{
-    bytes.iter().all(|b| b.is_ascii_alphanumeric())
 }
 
 /// The further word that one digit numbers.

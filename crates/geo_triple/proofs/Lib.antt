@@ -4,3 +4,4 @@ pub mod Sizes
 pub mod Readings
 pub mod Divisors
 pub mod Primitives
+pub mod ZeroLaws

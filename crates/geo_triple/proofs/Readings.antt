@@ -1,11 +1,12 @@
 -- Numbers as the code reads them: what fits the width is read as it is.
 -- lemmas for other crates
-use Rattle.std.proofs.Common.{◌≡◌, ℕ, ◌+◌, ◌*◌, ◌^◌, ◌-◌, ◌≤◌, ℤ, pos, ◌+ℤ◌, ◌-ℤ◌, ◌*ℤ◌, neg_ℤ, unsigned_abs, FitsSigned, to_z, of_z, arith, ap, le_trans, ◌∙◌, sym, ap₂, int_div}
+use Rattle.std.proofs.Common.{◌≡◌, ℕ, ◌+◌, ◌*◌, ◌≤◌, ℤ, pos, ◌+ℤ◌, ◌-ℤ◌, ◌*ℤ◌, neg_ℤ, unsigned_abs, FitsSigned, to_z, of_z, arith, ap, le_trans, ◌∙◌, sym, ap₂, int_div}
 use Rattle.std.specs.Int.{Width, w64, w128}
 use Rattle.std.proofs.lemmas.Int.{ints, to_z-of_z, fits_signed_from_abs}
 use Rattle.geo_algebra.proofs.AbsoluteValues.{abs-minor, abs-add, abs-sub, abs-mul, fits_128}
+use Rattle.geo_triple.specs.declared.limits.TheConstants.{SHORT_LIMIT, STATEMENT_LIMIT}
 use Rattle.geo_triple.specs.declared.Triple.{Triple}
-use Rattle.geo_triple.specs.declared.short.ShortTriple.{ShortTriple}
+use Rattle.geo_triple.specs.declared.narrow.ShortTriple.{ShortTriple}
 use Rattle.geo_triple.specs.Triple.{cross_of, dot_of, blend_of, cut_of, size_of}
 use Rattle.geo_triple.specs.Sums.{sizes_of, largest_of, dot_sum}
 use Rattle.geo_triple.specs.Primitive.{gcd_of, nonzero_or, with_sign_of, common_divisor_of, divisor_of, quotient_of}
@@ -20,10 +21,10 @@ read_at w z = to_z w (of_z w z)
 abbrev pub Suffices : Width → ℕ → Type 0
 Suffices w l = (z : ℤ) → unsigned_abs z ≤ l → FitsSigned w z
 
-pub in_128 : Suffices w128 (2 ^ 126)
-in_128 z h = fits_128 z (2 ^ 126) h (omega arith)
+pub in_128 : Suffices w128 STATEMENT_LIMIT
+in_128 z h = fits_128 z STATEMENT_LIMIT h (omega arith)
 
-pub in_64 : Suffices w64 (2 ^ 63 - 1)
+pub in_64 : Suffices w64 SHORT_LIMIT
 in_64 z h = fits_signed_from_abs w64 z (omega arith)
 
 -- the numbers a, b and c are read as the coordinates of t
@@ -36,7 +37,7 @@ pub all_read : (w : Width) (t : Triple) → FitsSigned w t.a → FitsSigned w t.
 all_read w t f g h = record { first = to_z-of_z w t.a f; second = to_z-of_z w t.b g; third = to_z-of_z w t.c h }
 
 -- numbers of 64 bits that are the coordinates of a triple within them
-pub shortened_read : (t : Triple) {s : ShortTriple} → largest_of (sizes_of t) ≤ 2 ^ 63 - 1 → s ≡ record { a = t.a; b = t.b; c = t.c } → AreRead w64 t s.a s.b s.c
+pub shortened_read : (t : Triple) {s : ShortTriple} → largest_of (sizes_of t) ≤ SHORT_LIMIT → s ≡ record { a = t.a; b = t.b; c = t.c } → AreRead w64 t s.a s.b s.c
 shortened_read t h e =
     rw
     e
@@ -139,14 +140,14 @@ cut_read w l fits s k {a} {b} {c} {by} left k_is h {x} {y} {x'} {y'} {z'} i j p 
     ∙ sym (cut_is s by)
 
 -- ---- primitive
-pub triple_read : (t : Triple) → size_of t ≤ 2 ^ 126 → AreRead w128 t t.a t.b t.c
+pub triple_read : (t : Triple) → size_of t ≤ STATEMENT_LIMIT → AreRead w128 t t.a t.b t.c
 triple_read t h =
     all_read w128 t (in_128 t.a (omega (arith, a-size t))) (in_128 t.b (omega (arith, b-size t))) (in_128 t.c (omega (arith, c-size t)))
 
-pub abs_read : (z : ℤ) → unsigned_abs z ≤ 2 ^ 126 → unsigned_abs (read_at w128 z) ≤ 2 ^ 126
+pub abs_read : (z : ℤ) → unsigned_abs z ≤ STATEMENT_LIMIT → unsigned_abs (read_at w128 z) ≤ STATEMENT_LIMIT
 abs_read z h = rw (to_z-of_z w128 z (in_128 z h)) h
 
-pub abs_small : (a : ℤ) {n : ℕ} → n ≡ unsigned_abs (read_at w128 a) → unsigned_abs a ≤ 2 ^ 126 → n ≤ 2 ^ 126
+pub abs_small : (a : ℤ) {n : ℕ} → n ≡ unsigned_abs (read_at w128 a) → unsigned_abs a ≤ STATEMENT_LIMIT → n ≤ STATEMENT_LIMIT
 abs_small a e h = rw e (abs_read a h)
 
 pub zero_read : {z : ℤ} → FitsSigned w128 z → of_z w128 z ≡ 0 → z ≡ pos 0
@@ -165,7 +166,7 @@ divisor_read {a} {b} {c} {l} {r} {x} {y} {z} {m} {n} fa fb fc dx dy dz dm dn dl 
     let l_is : l ≡ nonzero_or c (nonzero_or b a) = simp (a_read, b_read, c_read) at dl in
     to_z-of_z w128 r fr ∙ dr ∙ ap₂ with_sign_of (to_z-of_z w128 l fl ∙ l_is) (dn ∙ ap₂ gcd_of (dm ∙ ap₂ gcd_of x_is y_is) z_is)
 
-module _ (t : Triple) {by : ℤ} (h : size_of t ≤ 2 ^ 126) (e : by ≡ divisor_of record { a = read_at w128 t.a; b = read_at w128 t.b; c = read_at w128 t.c }) where
+module _ (t : Triple) {by : ℤ} (h : size_of t ≤ STATEMENT_LIMIT) (e : by ≡ divisor_of record { a = read_at w128 t.a; b = read_at w128 t.b; c = read_at w128 t.c }) where
   pub by_divisor : by ≡ divisor_of t
   by_divisor =
       let r = triple_read t h in e ∙ ap divisor_of (same_triple record { a = read_at w128 t.a; b = read_at w128 t.b; c = read_at w128 t.c } t r.first r.second r.third)

@@ -3,21 +3,26 @@
 #![tactic(auto)]
 
 ghost use Rattle.std.specs.Prelude.{◌≡◌};
+ghost use Rattle.geo_triple.specs.Zero.{are_zero, coordinates};
 
 mod laws;
+mod limits;
+mod narrow;
 mod products;
 mod reduction;
-mod short;
 mod steps;
+mod widths;
 
 pub use laws::{
     cut_in_coordinates, heights_bound_sizes, incidences_by_construction, only_one_primitive,
     plain_heights_suffice, primitive_or_zero, sums_bound_sizes, sums_grow,
 };
+pub use limits::{SHORT_LIMIT, STATEMENT_LIMIT};
+pub use narrow::Narrow;
 pub use products::{blend, cross, cut, det, dot};
 pub use reduction::primitive;
-pub use short::{short_blend, short_cross, short_cut, short_det, short_dot};
 pub use steps::Steps;
+pub use widths::{Wide, Width};
 
 /// The homogeneous coordinates of a point or a line: the point (x, y) is (x, y, 1), the line
 /// u·x + v·y + w = 0 is (u, v, w), and a multiple stands for the same point or line.
@@ -27,6 +32,15 @@ pub struct Triple {
     pub a: i128,
     pub b: i128,
     pub c: i128,
+}
+
+impl Triple {
+    /// Whether it is the zero triple.
+    pub fn is_zero(&self) -> bool
+        ensures { result ≡ are_zero (coordinates self.now) }
+    {
+        self.a == 0 && self.b == 0 && self.c == 0
+    }
 }
 
 #[cfg(test)]
@@ -79,6 +93,8 @@ mod tests {
             }
         }
         assert!(rt; primitive(&at(0, 0, 0)).is_none(), "the zero triple");
+        assert!(rt; at(0, 0, 0).is_zero(), "the zero triple");
+        assert!(rt; !at(0, 0, -1).is_zero(), "a third coordinate");
     }
 
     #[test]
@@ -103,18 +119,23 @@ mod tests {
     fn by_short_products(rt: HostRuntime) {
         let s = at(3_000_000_000, -2, 7);
         let t = at(1_000_000_000, 5, -1);
-        let cross = short_cross(&s, &t);
+        let cross = Narrow::cross(&s, &t);
         assert!(rt; is_at(cross, -33, 10_000_000_000, 17_000_000_000), "cross");
-        assert_eq!(rt; short_dot(&s, &t), 2_999_999_999_999_999_983);
-        assert_eq!(rt; short_det(&s, &t, &at(1, 0, 0)), -33);
+        assert_eq!(rt; Narrow::dot(&s, &t), 2_999_999_999_999_999_983);
+        assert_eq!(rt; Narrow::det(&s, &t, &at(1, 0, 0)), -33);
         assert!(rt;
-            is_at(short_blend(&s, &t, -2), 1_000_000_000, -12, 9),
+            is_at(Narrow::blend(&s, &t, -2), 1_000_000_000, -12, 9),
             "blend"
         );
-        assert!(rt; is_at(short_cut(&s, 4), 8, 12_000_000_007, 2), "cut");
+        assert!(rt; is_at(Narrow::cut(&s, 4), 8, 12_000_000_007, 2), "cut");
         assert_eq!(rt;
-            short_dot(&at(i64::MAX.into(), 0, 0), &at(-1, 0, 0)),
+            Narrow::dot(&at(i64::MAX.into(), 0, 0), &at(-1, 0, 0)),
             -9_223_372_036_854_775_807
         );
+        assert_eq!(rt;
+            Narrow::product(i64::MAX.into(), -1),
+            -9_223_372_036_854_775_807
+        );
+        assert_eq!(rt; Wide::product(1 << 63, -(1 << 63)), -(1 << 126));
     }
 }

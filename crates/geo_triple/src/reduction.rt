@@ -1,7 +1,8 @@
 //! Reduction of a triple by the greatest common divisor of its coordinates.
 
-ghost use Rattle.std.specs.Prelude.{◌≡◌, ◌≢◌, ◌≤◌, ◌^◌, ◌↔◌, pos, unsigned_abs, int_div, IsNone, IfSome};
+ghost use Rattle.std.specs.Prelude.{◌≡◌, ◌≢◌, ◌≤◌, ◌↔◌, pos, unsigned_abs, int_div, IsNone, IfSome};
 ghost use Rattle.geo_triple.specs.Triple.{size_of, zero_triple};
+ghost use Rattle.geo_triple.specs.declared.limits.TheConstants.{STATEMENT_LIMIT};
 ghost use Rattle.geo_triple.specs.Primitive.{IsPrimitiveOf, primitive_of, divisor_of, gcd_of, with_sign_of, nonzero_or};
 
 use crate::Triple;
@@ -33,7 +34,7 @@ fn last_nonzero(a: i128, b: i128, c: i128) -> i128
 }
 
 fn with_sign_of(sign: i128, size: u128) -> i128
-    requires { size ≤ 2 ^ 126 }
+    requires { size ≤ STATEMENT_LIMIT }
     ensures { result ≡ with_sign_of sign size }
 {
     let size = size as i128;
@@ -41,9 +42,9 @@ fn with_sign_of(sign: i128, size: u128) -> i128
 }
 
 fn divisor(a: i128, b: i128, c: i128) -> i128
-    requires a_small { unsigned_abs a ≤ 2 ^ 126 }
-    requires b_small { unsigned_abs b ≤ 2 ^ 126 }
-    requires c_small { unsigned_abs c ≤ 2 ^ 126 }
+    requires a_small { unsigned_abs a ≤ STATEMENT_LIMIT }
+    requires b_small { unsigned_abs b ≤ STATEMENT_LIMIT }
+    requires c_small { unsigned_abs c ≤ STATEMENT_LIMIT }
     ensures { result ≡ divisor_of record { a = a; b = b; c = c } }
 {
     let size = gcd(gcd(a.unsigned_abs(), b.unsigned_abs()), c.unsigned_abs());
@@ -52,7 +53,7 @@ fn divisor(a: i128, b: i128, c: i128) -> i128
 
 fn quotient(x: i128, by: i128) -> i128
     requires nonzero { by ≢ pos 0 }
-    requires small { unsigned_abs x ≤ 2 ^ 126 }
+    requires small { unsigned_abs x ≤ STATEMENT_LIMIT }
     ensures { result ≡ int_div x by }
 {
     x / by
@@ -61,7 +62,7 @@ fn quotient(x: i128, by: i128) -> i128
 /// The triple with coprime coordinates, the last nonzero one positive, that stands for the same
 /// point or line; None where the triple is zero and stands for none.
 pub fn primitive(t: &Triple) -> Option<Triple>
-    requires { size_of t.now ≤ 2 ^ 126 }
+    requires { size_of t.now ≤ STATEMENT_LIMIT }
     ensures value { result ≡ primitive_of t.now }
     ensures primitive { IfSome result (IsPrimitiveOf t.now) }
     ensures none_for_zero { IsNone result ↔ (t.now ≡ zero_triple) }

@@ -9,7 +9,7 @@ use Rattle.geo_sketch.specs.Lookups.{Rises, numbered}
 use Rattle.geo_sketch.specs.Changes.{without}
 use Rattle.geo_sketch.proofs.NumberLaws.{found_from}
 use Rattle.geo_view.specs.declared.shown.Change.TheVariants.{Put}
-use Rattle.geo_view.specs.declared.shown.Shown.{Shown}
+use Rattle.geo_eval.specs.declared.here.Shown.{Shown}
 use Rattle.geo_view.specs.Entries.{put, seen, without as left}
 
 less : (m n : ℕ) → m < n → nat_lt m n ≡ true

@@ -16,7 +16,7 @@ use Rattle.geo_sketch.specs.Constructions.{AtNamed}
 use Rattle.geo_sketch.specs.Dependence.{depends_on}
 use Rattle.geo_sketch.specs.Heights.{heights_algebra}
 use Rattle.geo_sketch.specs.Lookups.{IsLive, def_at, numbered}
-use Rattle.geo_sketch.specs.PlainHeights.{height_limit}
+use Rattle.geo_sketch.specs.declared.limits.TheConstants.{HEIGHT_LIMIT}
 use Rattle.geo_sketch.specs.Sketches.{Drawing, IsDrawn}
 use Rattle.geo_sketch.specs.Triples.{triple_algebra}
 use Rattle.geo_sketch.proofs.AssignmentLaws.{current_first, current_second}
@@ -42,7 +42,7 @@ module _ (one two : Drawing) (one_drawn : IsDrawn one) (two_drawn : IsDrawn two)
       let triples : current_triple one n ≡ current_triple two n =
       computed_same one.elements one_drawn.rising b (triple_algebra (current one.settings)) (triple_algebra (current two.settings)) two.elements two_drawn.rising d n
       (λ on h. ((agree on h).0, triples_agree (current one.settings) (current two.settings) on (firsts on (agree on h).1) (seconds on (agree on h).1))) in
-      λ i. if nat_lt height_limit (largest_of (heights i)) then Far else here_by (primitive_of (triples i))
+      λ i. if nat_lt HEIGHT_LIMIT (largest_of (heights i)) then Far else here_by (primitive_of (triples i))
 
 -- a sketch with an element, and the one without it
 pub record Apart (large small : Drawing) (e : Element) : Type 0 where
@@ -99,7 +99,7 @@ primitive_near t u limit primitive a b c =
 
 module _ (law : (t u : Triple) → primitive_of t ≡ Some u → IsPrimitiveOf t u) (drawing : Drawing) (drawn : IsDrawn drawing) where
   pub near_here : (n : ℕ) → IsNearHere (here_of drawing n)
-  near_here n = by_height (nat_lt height_limit (largest_of heights)) refl
+  near_here n = by_height (nat_lt HEIGHT_LIMIT (largest_of heights)) refl
     where
       heights : Sizes
       heights = current_heights drawing n
@@ -107,12 +107,12 @@ module _ (law : (t u : Triple) → primitive_of t ≡ Some u → IsPrimitiveOf t
       fit : FitIn (sizes_of (current_triple drawing n)) heights
       fit = fits drawing.elements (constructed drawing drawn) (current drawing.settings) (magnitudes (current drawing.settings)) (λ p. omega arith) n
 
-      by_triple : largest_of heights ≤ height_limit → (o : Option Triple) → primitive_of (current_triple drawing n) ≡ o → IsNearHere (here_by o)
+      by_triple : largest_of heights ≤ HEIGHT_LIMIT → (o : Option Triple) → primitive_of (current_triple drawing n) ≡ o → IsNearHere (here_by o)
       by_triple low None q = tt
       by_triple low (Some u) q =
           primitive_near (current_triple drawing n) u (2 ^ 41) (law (current_triple drawing n) u q)
           (omega (arith, fit.a, a-largest heights, low)) (omega (arith, fit.b, b-largest heights, low)) (omega (arith, fit.c, c-largest heights, low))
 
-      by_height : (b : Bool) → nat_lt height_limit (largest_of heights) ≡ b → IsNearHere (if b then Far else here_by (primitive_of (current_triple drawing n)))
+      by_height : (b : Bool) → nat_lt HEIGHT_LIMIT (largest_of heights) ≡ b → IsNearHere (if b then Far else here_by (primitive_of (current_triple drawing n)))
       by_height true q = tt
-      by_height false q = by_triple (ltb-false height_limit (largest_of heights) q) (primitive_of (current_triple drawing n)) refl
+      by_height false q = by_triple (ltb-false HEIGHT_LIMIT (largest_of heights) q) (primitive_of (current_triple drawing n)) refl

@@ -9,9 +9,9 @@ use Rattle.geo_sketch.specs.declared.changes.Delta.TheVariants.{Added, Dropped, 
 use Rattle.geo_sketch.specs.declared.elements.Element.{Element}
 use Rattle.geo_sketch.specs.Dependence.{depends_on}
 use Rattle.geo_sketch.specs.Sketches.{Drawing, IsDrawn}
-use Rattle.geo_eval.specs.Shown.{shown}
+use Rattle.geo_eval.specs.Shown.{shown, shown_of}
 use Rattle.geo_view.specs.Entries.{AreNear, AreNearChanges, IsNearChange}
-use Rattle.geo_view.specs.Following.{changes_of, entries_of, entry_of, putting}
+use Rattle.geo_view.specs.Following.{changes_of, putting}
 use Rattle.geo_view.proofs.HereLaws.{near_here}
 
 all_mapped : {X Y : Type 0} (P : Y → Type 0) (f : X → Y) (xs : List X) → ((x : X) → P (f x)) → All P (map f xs)
@@ -25,12 +25,12 @@ alone P x p zero d w = p
 alone P x p (suc k) d w = absurd (omega (arith, w))
 
 module _ (law : (t u : Triple) → primitive_of t ≡ Some u → IsPrimitiveOf t u) (drawing : Drawing) (drawn : IsDrawn drawing) where
-  entries_near : (es : List Element) → AreNear (map entry_of (map (shown drawing) es))
+  entries_near : (es : List Element) → AreNear (map (shown drawing) es)
   entries_near [] k d w = absurd (omega (arith, w))
   entries_near (e ∷ es) zero d w = near_here law drawing drawn e.number
   entries_near (e ∷ es) (suc k) d w = entries_near es k d (omega (arith, w))
 
-  pub shown_near : AreNear (entries_of drawing)
+  pub shown_near : AreNear (shown_of drawing)
   shown_near = entries_near drawing.elements
 
   pub changes_near : (d : Delta) (forward : Bool) → AreNearChanges (changes_of drawing d forward)

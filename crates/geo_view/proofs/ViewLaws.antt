@@ -4,7 +4,6 @@ use Rattle.std.specs.Prelude.{nat_lt}
 use Rattle.std.specs.List.{filter}
 use Rattle.std.proofs.lemmas.Bool.{cases_order, cond_both, eq-eqb, ne_eqb}
 use Rattle.std.proofs.lemmas.List.{get_or-set_other, get_or_append_left, get_or_past, length-append, append-nil, take_more}
-use Rattle.std.proofs.lemmas.Simd.{map-map}
 use Rattle.geo_triple.specs.Primitive.{primitive_of}
 use Rattle.geo_triple.specs.Sums.{largest_of}
 use Rattle.geo_sketch.specs.declared.changes.Delta.{Delta}
@@ -19,7 +18,7 @@ use Rattle.geo_sketch.specs.Changes.{LeadsFrom, LeadsTo, applied, exchanged, tak
 use Rattle.geo_sketch.specs.Dependence.{depends_on}
 use Rattle.geo_sketch.specs.Heights.{heights_algebra}
 use Rattle.geo_sketch.specs.Lookups.{Rises, numbered}
-use Rattle.geo_sketch.specs.PlainHeights.{height_limit}
+use Rattle.geo_sketch.specs.declared.limits.TheConstants.{HEIGHT_LIMIT}
 use Rattle.geo_sketch.specs.Sketches.{Drawing, IsDrawn, other}
 use Rattle.geo_sketch.specs.Triples.{triple_algebra}
 use Rattle.geo_sketch.proofs.ChangeLaws.{applied_taken, taken_back_drawn, taken_back_leads}
@@ -28,25 +27,18 @@ use Rattle.geo_sketch.proofs.NumberLaws.{found_from, gone, last_found, others_sa
 use Rattle.geo_sketch.proofs.TableLaws.{number_at}
 use Rattle.geo_eval.specs.declared.here.Here.TheVariants.{Far}
 use Rattle.geo_eval.specs.Scenes.{Leads, before_of}
-use Rattle.geo_eval.specs.Shown.{here_by, here_of, shown}
+use Rattle.geo_eval.specs.Shown.{here_by, here_of, shown, shown_of}
 use Rattle.geo_view.specs.declared.shown.Change.TheVariants.{Put}
-use Rattle.geo_view.specs.declared.shown.Shown.{Shown}
 use Rattle.geo_view.specs.Entries.{put, seen, exchanged as turned, without as left}
-use Rattle.geo_view.specs.Following.{changes_of, entries_of, entry_of}
+use Rattle.geo_view.specs.Following.{changes_of}
 use Rattle.geo_view.proofs.FollowLaws.{put_anew, put_back, put_last, taken_out}
 use Rattle.geo_view.proofs.HereLaws.{Apart, others_here, same_here}
 
-abbrev entry : Drawing → Element → Shown
-entry drawing e = entry_of (shown drawing e)
-
-fused : (drawing : Drawing) → entries_of drawing ≡ map (entry drawing) drawing.elements
-fused drawing = map-map entry_of (shown drawing) drawing.elements
-
-same_entry : (one two : Drawing) (e : Element) → here_of one e.number ≡ here_of two e.number → entry one e ≡ entry two e
+same_entry : (one two : Drawing) (e : Element) → here_of one e.number ≡ here_of two e.number → shown one e ≡ shown two e
 same_entry one two e h = λ i. record { number = e.number; name = e.name; kind = e.kind; here = h i }
 
 -- ---- elements in the same places have the same entries
-same_entries : (one two : Drawing) (low : ℕ) (es : List Element) → Rises low es → ((e : Element) → numbered es e.number ≡ Some e → here_of one e.number ≡ here_of two e.number) → map (entry one) es ≡ map (entry two) es
+same_entries : (one two : Drawing) (low : ℕ) (es : List Element) → Rises low es → ((e : Element) → numbered es e.number ≡ Some e → here_of one e.number ≡ here_of two e.number) → map (shown one) es ≡ map (shown two) es
 same_entries one two low [] r same = refl
 same_entries one two low (e ∷ es) r same =
     let rest = same_entries one two (e.number + 1) es r.1 (λ x h. same x (rw (ne_eqb e.number x.number (λ q. absurd (omega (arith, q, found_from (e.number + 1) es x.number x r.1 h)))) h)) in
@@ -89,21 +81,19 @@ module _ (drawing : Drawing) (drawn : IsDrawn drawing) (e : Element) (s : Settin
       settings = λ n ne. push_other drawing.settings s setting.None n (λ q. ne (q ∙ sym leads.records));
     }
 
-    stay : map (entry drawing) drawing.elements ≡ map (entry larger) drawing.elements
+    stay : map (shown drawing) drawing.elements ≡ map (shown larger) drawing.elements
     stay = same_entries drawing larger 0 drawing.elements drawn.rising (λ x h. others_here larger drawing e added_apart x.number (λ q. let found : numbered drawing.elements x.number ≡ None = ap (numbered drawing.elements) q ∙ fresh in cc))
 
-    pub came : put (entry larger e) (entries_of drawing) ≡ entries_of larger
+    pub came : put (shown larger e) (shown_of drawing) ≡ shown_of larger
     came =
-        ap (put (entry larger e)) (fused drawing ∙ stay)
-        ∙ put_last (entry larger) (λ x. refl) 0 drawing.elements e drawn.rising (λ n x h. let given = drawn.given n x h in omega (arith, given, leads.records))
-        ∙ sym (fused larger)
+        ap (put (shown larger e)) stay
+        ∙ put_last (shown larger) (λ x. refl) 0 drawing.elements e drawn.rising (λ n x h. let given = drawn.given n x h in omega (arith, given, leads.records))
 
-    pub came_back : left e.number (entries_of larger) ≡ entries_of drawing
+    pub came_back : left e.number (shown_of larger) ≡ shown_of drawing
     came_back =
-        ap (left e.number) (fused larger)
-        ∙ taken_out (entry larger) (λ x. refl) 0 larger.elements e.number leads.drawn.rising
-        ∙ ap (map (entry larger)) (without_last drawing.elements e fresh)
-        ∙ sym (fused drawing ∙ stay)
+        taken_out (shown larger) (λ x. refl) 0 larger.elements e.number leads.drawn.rising
+        ∙ ap (map (shown larger)) (without_last drawing.elements e fresh)
+        ∙ sym stay
 
   module _ (leads : LeadsFrom drawing (Dropped e s)) where
     abbrev smaller : Drawing
@@ -118,22 +108,21 @@ module _ (drawing : Drawing) (drawn : IsDrawn drawing) (e : Element) (s : Settin
       settings = λ n ne. sym (get_or-set_other drawing.settings e.number n setting.None setting.None ne);
     }
 
-    stayed : map (entry smaller) smaller.elements ≡ map (entry drawing) smaller.elements
+    stayed : map (shown smaller) smaller.elements ≡ map (shown drawing) smaller.elements
     stayed = same_entries smaller drawing 0 smaller.elements leads.drawn.rising (λ x h. others_here drawing smaller e dropped_apart x.number (λ q. let found : numbered smaller.elements x.number ≡ None = ap (numbered smaller.elements) q ∙ gone 0 drawing.elements e.number drawn.rising in cc))
 
-    pub went : left e.number (entries_of drawing) ≡ entries_of smaller
-    went = ap (left e.number) (fused drawing) ∙ taken_out (entry drawing) (λ x. refl) 0 drawing.elements e.number drawn.rising ∙ sym (fused smaller ∙ stayed)
+    pub went : left e.number (shown_of drawing) ≡ shown_of smaller
+    went = taken_out (shown drawing) (λ x. refl) 0 drawing.elements e.number drawn.rising ∙ sym stayed
 
-    pub went_back : put (entry drawing e) (entries_of smaller) ≡ entries_of drawing
-    went_back = ap (put (entry drawing e)) (fused smaller ∙ stayed) ∙ put_back (entry drawing) (λ x. refl) 0 drawing.elements e drawn.rising leads.records.0 ∙ sym (fused drawing)
+    pub went_back : put (shown drawing e) (shown_of smaller) ≡ shown_of drawing
+    went_back = ap (put (shown drawing e)) stayed ∙ put_back (shown drawing) (λ x. refl) 0 drawing.elements e drawn.rising leads.records.0
 
 -- ---- a drag
 module _ (one two : Drawing) (one_drawn : IsDrawn one) (two_drawn : IsDrawn two) (n : ℕ) (elements : one.elements ≡ two.elements) (settings : (on : ℕ) → on ≢ n → setting_of one.settings on ≡ setting_of two.settings on) where
-  pub dragged : seen (map (λ e. Put (entry two e)) (filter (λ e. depends_on two.elements e.number n) two.elements)) (entries_of one) ≡ entries_of two
+  pub dragged : seen (map (λ e. Put (shown two e)) (filter (λ e. depends_on two.elements e.number n) two.elements)) (shown_of one) ≡ shown_of two
   dragged =
-      ap (seen (map (λ e. Put (entry two e)) (filter (λ e. depends_on two.elements e.number n) two.elements))) (fused one ∙ ap (map (entry one)) elements)
-      ∙ put_anew (entry one) (entry two) (λ e. refl) (λ e. refl) (λ e. depends_on two.elements e.number n) 0 two.elements two_drawn.rising (λ e h t. same_entry one two e (still e t))
-      ∙ sym (fused two)
+      ap (seen (map (λ e. Put (shown two e)) (filter (λ e. depends_on two.elements e.number n) two.elements))) (ap (map (shown one)) elements)
+      ∙ put_anew (shown one) (shown two) (λ e. refl) (λ e. refl) (λ e. depends_on two.elements e.number n) 0 two.elements two_drawn.rising (λ e h t. same_entry one two e (still e t))
     where
       still : (e : Element) → depends_on two.elements e.number n ≡ false → here_of one e.number ≡ here_of two e.number
       still e t = sym (same_here two one two_drawn one_drawn e.number (λ on h. (ap (λ es. option_map (λ (x : Element). x.def) (numbered es on)) (sym elements), sym (settings on (λ q. let dependent : depends_on two.elements e.number n ≡ true = rw (← q) h in cc)))))
@@ -145,26 +134,26 @@ other_twice Line = refl
 
 turned_here : (drawing : Drawing) (n : ℕ) → here_of (applied drawing Dual) n ≡ here_of drawing n
 turned_here drawing n =
-    λ i. if nat_lt height_limit (largest_of (computed_exchanged (heights_algebra (magnitudes (current drawing.settings))) drawing.elements n i)) then Far else here_by (primitive_of (computed_exchanged (triple_algebra (current drawing.settings)) drawing.elements n i))
+    λ i. if nat_lt HEIGHT_LIMIT (largest_of (computed_exchanged (heights_algebra (magnitudes (current drawing.settings))) drawing.elements n i)) then Far else here_by (primitive_of (computed_exchanged (triple_algebra (current drawing.settings)) drawing.elements n i))
 
-turned_entries : (drawing : Drawing) (es : List Element) → map turned (map (entry (applied drawing Dual)) (map exchanged es)) ≡ map (entry drawing) es
+turned_entries : (drawing : Drawing) (es : List Element) → map turned (map (shown (applied drawing Dual)) (map exchanged es)) ≡ map (shown drawing) es
 turned_entries drawing [] = refl
 turned_entries drawing (e ∷ es) =
     let rest = turned_entries drawing es in
     λ i. record { number = e.number; name = e.name; kind = other_twice e.kind i; here = turned_here drawing e.number i } ∷ rest i
 
-pub turned_back : (drawing : Drawing) → map turned (entries_of (applied drawing Dual)) ≡ entries_of drawing
-turned_back drawing = ap (map turned) (fused (applied drawing Dual)) ∙ turned_entries drawing drawing.elements ∙ sym (fused drawing)
+pub turned_back : (drawing : Drawing) → map turned (shown_of (applied drawing Dual)) ≡ shown_of drawing
+turned_back drawing = turned_entries drawing drawing.elements
 
 -- ---- any change
-pub followed : (drawing : Drawing) (d : Delta) (forward : Bool) → IsDrawn drawing → Leads drawing d forward → seen (changes_of drawing d forward) (entries_of (before_of drawing d forward)) ≡ entries_of drawing
+pub followed : (drawing : Drawing) (d : Delta) (forward : Bool) → IsDrawn drawing → Leads drawing d forward → seen (changes_of drawing d forward) (shown_of (before_of drawing d forward)) ≡ shown_of drawing
 followed drawing (Added e s) true drawn leads =
     let before = taken_back drawing (Added e s) in
-    subst (λ (k : Drawing). put (entry k e) (entries_of before) ≡ entries_of k) (applied_taken drawing (Added e s) leads) (came before (taken_back_drawn drawing (Added e s) leads) e s (taken_back_leads drawing (Added e s) leads))
+    subst (λ (k : Drawing). put (shown k e) (shown_of before) ≡ shown_of k) (applied_taken drawing (Added e s) leads) (came before (taken_back_drawn drawing (Added e s) leads) e s (taken_back_leads drawing (Added e s) leads))
 followed drawing (Added e s) false drawn leads = came_back drawing drawn e s leads
 followed drawing (Dropped e s) true drawn leads =
     let before = taken_back drawing (Dropped e s) in
-    subst (λ (k : Drawing). left e.number (entries_of before) ≡ entries_of k) (applied_taken drawing (Dropped e s) leads) (went before (taken_back_drawn drawing (Dropped e s) leads) e s (taken_back_leads drawing (Dropped e s) leads))
+    subst (λ (k : Drawing). left e.number (shown_of before) ≡ shown_of k) (applied_taken drawing (Dropped e s) leads) (went before (taken_back_drawn drawing (Dropped e s) leads) e s (taken_back_leads drawing (Dropped e s) leads))
 followed drawing (Dropped e s) false drawn leads = went_back drawing drawn e s leads
 followed drawing (Dragged n from to) true drawn leads =
     dragged (taken_back drawing (Dragged n from to)) drawing (taken_back_drawn drawing (Dragged n from to) leads) drawn n refl (λ m ne. get_or-set_other drawing.settings n m from setting.None ne)

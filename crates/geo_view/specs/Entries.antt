@@ -7,7 +7,8 @@ use Rattle.geo_eval.specs.declared.here.Here.{Here}
 use Rattle.geo_eval.specs.declared.here.Here.TheVariants.{At, NullHere, Far}
 use Rattle.geo_view.specs.declared.shown.Change.{Change}
 use Rattle.geo_view.specs.declared.shown.Change.TheVariants.{Put, Gone, Dual}
-use Rattle.geo_view.specs.declared.shown.Shown.{Shown}
+use Rattle.geo_eval.specs.declared.here.Shown.{Shown}
+use Rattle.geo_sketch.specs.declared.limits.TheConstants.{HEIGHT_LIMIT}
 
 -- the entries with one more in the place of its number, or in place of the one that has it
 abbrev pub put : Shown → List Shown → List Shown
@@ -41,7 +42,7 @@ seen (c ∷ cs) es = seen cs (changed c es)
 -- ---- how large coordinates are
 -- each coordinate lies from -2^41 to 2^41
 abbrev pub IsNear : Triple → Type 0
-IsNear t = (unsigned_abs t.a ≤ 2 ^ 41) × (unsigned_abs t.b ≤ 2 ^ 41) × (unsigned_abs t.c ≤ 2 ^ 41)
+IsNear t = (unsigned_abs t.a ≤ HEIGHT_LIMIT) × (unsigned_abs t.b ≤ HEIGHT_LIMIT) × (unsigned_abs t.c ≤ HEIGHT_LIMIT)
 
 abbrev pub IsNearHere : Here → Type 0
 IsNearHere (At t) = IsNear t

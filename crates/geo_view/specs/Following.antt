@@ -6,22 +6,13 @@ use Rattle.geo_sketch.specs.declared.changes.Delta.TheVariants as delta
 use Rattle.geo_sketch.specs.declared.elements.Element.{Element}
 use Rattle.geo_sketch.specs.Dependence.{depends_on}
 use Rattle.geo_sketch.specs.Sketches.{Drawing}
-use Rattle.geo_eval.specs.Shown.{shown, shown_of, Shown as Seen}
+use Rattle.geo_eval.specs.Shown.{shown}
 use Rattle.geo_view.specs.declared.shown.Change.{Change}
 use Rattle.geo_view.specs.declared.shown.Change.TheVariants as change
-use Rattle.geo_view.specs.declared.shown.Shown.{Shown}
-
--- what is shown of an element, as an entry
-abbrev pub entry_of : Seen → Shown
-entry_of s = record { number = s.number; name = s.name; kind = s.kind; here = s.here }
-
--- what is shown of a sketch, as entries
-abbrev pub entries_of : Drawing → List Shown
-entries_of drawing = map entry_of (shown_of drawing)
 
 -- an element is put where it is
 abbrev pub putting : Drawing → Element → Change
-putting drawing e = change.Put (entry_of (shown drawing e))
+putting drawing e = change.Put (shown drawing e)
 
 -- what is handed on of a change that led to this sketch, or from it where it was taken back:
 -- the element that comes in, the number that leaves, and of a drag the elements that depend

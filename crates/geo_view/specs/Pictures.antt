@@ -7,7 +7,7 @@ use Rattle.geo_sketch.specs.declared.elements.Kind.{Kind}
 use Rattle.geo_sketch.specs.declared.elements.Kind.TheVariants.{Point, Line}
 use Rattle.geo_eval.specs.declared.here.Here.{Here}
 use Rattle.geo_eval.specs.declared.here.Here.TheVariants.{At, NullHere, Far}
-use Rattle.geo_view.specs.declared.shown.Shown.{Shown}
+use Rattle.geo_eval.specs.declared.here.Shown.{Shown}
 use Rattle.geo_view.specs.declared.shown.ViewKind.{ViewKind}
 use Rattle.geo_view.specs.declared.shown.ViewKind.TheVariants.{Table, Plane, DualPlane}
 use Rattle.geo_view.specs.Entries.{exchanged}

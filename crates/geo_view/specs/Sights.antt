@@ -1,7 +1,7 @@
 -- What is seen of a view.
 use Rattle.std.specs.Prelude.{ℕ, List}
 use Rattle.geo_view.specs.declared.shown.Change.{Change}
-use Rattle.geo_view.specs.declared.shown.Shown.{Shown}
+use Rattle.geo_eval.specs.declared.here.Shown.{Shown}
 use Rattle.geo_view.specs.declared.shown.ViewKind.{ViewKind}
 use Rattle.geo_view.specs.Entries.{seen}
 use Rattle.geo_view.specs.Pictures.{picture_text}

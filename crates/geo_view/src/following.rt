@@ -3,25 +3,25 @@
 ghost use Rattle.std.specs.Prelude.{◌≡◌, ◌++◌, [], ◌∷◌, if◌then◌else◌, IfOk, OnOk, Some, map};
 ghost use Rattle.std.specs.List.{filter};
 ghost use Rattle.geo_eval.specs.Scenes.{IsSceneOf, Leads};
-ghost use Rattle.geo_eval.specs.Shown.{shown};
+ghost use Rattle.geo_eval.specs.Shown.{shown_of};
 ghost use Rattle.geo_sketch.specs.Dependence.{depends_on};
 ghost use Rattle.geo_sketch.specs.Lookups.{numbered};
 ghost use Rattle.geo_view.specs.Entries.{AreNear, AreNearChanges};
-ghost use Rattle.geo_view.specs.Following.{changes_of, entries_of, entry_of, putting};
+ghost use Rattle.geo_view.specs.Following.{changes_of, putting};
 
-use crate::shown::{Change, Shown};
-use geo_eval::Scene;
+use crate::shown::Change;
+use geo_eval::{Scene, Shown};
 use geo_sketch::{Delta, Element, NoMemory, Sketch};
 use std::alloc::{AllocError, Global};
 
-/// What is shown of the sketch, as entries.
-pub fn entries_of(alloc: Global, sketch: &Sketch, scene: &Scene) -> Result<Vec<Shown>, NoMemory>
+/// What is shown of the sketch: the entries of its views.
+pub fn shown_of(alloc: Global, sketch: &Sketch, scene: &Scene) -> Result<Vec<Shown>, NoMemory>
     requires { IsSceneOf scene.now sketch.now }
-    ensures entries { IfOk result (λ list. list.items ≡ entries_of sketch.now) }
+    ensures { IfOk result (λ list. list.items ≡ shown_of sketch.now) }
 {
     let mut list = Vec::new(alloc);
     for element in sketch.elements() {
-        if list.push(entry_of(sketch, scene, element)).is_err() {
+        if list.push(scene.shown(sketch, element)).is_err() {
             return Err(NoMemory);
         }
     }
@@ -84,7 +84,7 @@ fn coming(
     requires live { numbered sketch.now.elements element.now.number ≡ Some element.now }
     ensures { IfOk result (λ list. list.items ≡ putting sketch.now element.now ∷ []) }
 {
-    one(alloc, Change::Put(entry_of(sketch, scene, element)))
+    one(alloc, Change::Put(scene.shown(sketch, element)))
 }
 
 /// Each element that depends on this one is put where it is.
@@ -119,28 +119,11 @@ fn note_moved(
     ensures { OnOk result (list.new.items ≡ (if depends_on sketch.now.elements element.now.number number then list.old.items ++ (putting sketch.now element.now ∷ []) else list.old.items)) }
 {
     if sketch.depends(element.number, number) {
-        match list.push(Change::Put(entry_of(sketch, scene, element))) {
+        match list.push(Change::Put(scene.shown(sketch, element))) {
             Ok(()) => Ok(()),
             Err(_) => Err(AllocError),
         }
     } else {
         Ok(())
-    }
-}
-
-/// What is shown of a live element, as an entry.
-fn entry_of(sketch: &Sketch, scene: &Scene, element: &Element) -> Shown
-    requires scene { IsSceneOf scene.now sketch.now }
-    requires live { numbered sketch.now.elements element.now.number ≡ Some element.now }
-    ensures { result ≡ entry_of (shown sketch.now element.now) }
-{
-    match scene.get(element.number) {
-        Some(here) => Shown {
-            number: element.number,
-            name: element.name,
-            kind: element.kind,
-            here,
-        },
-        None => unreachable!(),
     }
 }

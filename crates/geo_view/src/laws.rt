@@ -5,7 +5,8 @@ ghost use Rattle.geo_eval.specs.Scenes.{Leads, before_of};
 ghost use Rattle.geo_sketch.specs.declared.changes.Delta.{Delta as Change};
 ghost use Rattle.geo_sketch.specs.Sketches.{Drawing, IsDrawn};
 ghost use Rattle.geo_view.specs.Entries.{AreNear, AreNearChanges, seen};
-ghost use Rattle.geo_view.specs.Following.{changes_of, entries_of};
+ghost use Rattle.geo_eval.specs.Shown.{shown_of};
+ghost use Rattle.geo_view.specs.Following.{changes_of};
 
 use geo_triple::primitive_or_zero;
 
@@ -13,8 +14,8 @@ use geo_triple::primitive_or_zero;
 /// after it; and the coordinates of what it is told, and of what is shown, lie from -2^41 to
 /// 2^41.
 pub fn views_follow()
-    ensures follow { (drawing : Drawing) (d : Change) (forward : Bool) → IsDrawn drawing → Leads drawing d forward → seen (changes_of drawing d forward) (entries_of (before_of drawing d forward)) ≡ entries_of drawing }
-    ensures near { (drawing : Drawing) (d : Change) (forward : Bool) → IsDrawn drawing → AreNear (entries_of drawing) × AreNearChanges (changes_of drawing d forward) }
+    ensures follow { (drawing : Drawing) (d : Change) (forward : Bool) → IsDrawn drawing → Leads drawing d forward → seen (changes_of drawing d forward) (shown_of (before_of drawing d forward)) ≡ shown_of drawing }
+    ensures near { (drawing : Drawing) (d : Change) (forward : Bool) → IsDrawn drawing → AreNear (shown_of drawing) × AreNearChanges (changes_of drawing d forward) }
 {
     primitive_or_zero();
 }

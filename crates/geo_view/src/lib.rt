@@ -13,10 +13,11 @@ mod views;
 mod wall;
 
 pub use all_views::{NoViews, Views};
-pub use following::{changes_of, entries_of};
+pub use following::{changes_of, shown_of};
+pub use geo_eval::Shown;
 pub use laws::views_follow;
 pub use picture::write_picture;
-pub use shown::{Change, Shown, ViewKind};
+pub use shown::{Change, ViewKind};
 pub use view::View;
 pub use views::{DualView, PlaneView, TableView};
 pub use wall::{Place, Wall};

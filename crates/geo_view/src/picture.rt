@@ -3,11 +3,12 @@
 ghost use Rattle.std.specs.Prelude.{◌≡◌, ◌≢◌, ◌≤◌, ◌^◌, ◌++◌, ◌-ℤ◌, ◌*ℤ◌, neg_ℤ, pos, unsigned_abs, IfSome, OnOk, map, flat_map};
 ghost use Rattle.geo_view.specs.Entries.{AreNear, IsNear, IsNearEntry, exchanged};
 ghost use Rattle.geo_view.specs.Pictures.{across, at_text, circle_text, entry_text, flat_text, floor_of, line_text, picture_text, plane_text, point_text, segment_text, steep_text, upwards, head_text, foot_text, attribute, end_text, stroke_text, name_text, number_text};
+ghost use Rattle.geo_sketch.specs.declared.limits.TheConstants.{HEIGHT_LIMIT};
 
 use crate::entries::exchange_kind;
-use crate::shown::{Shown, ViewKind};
+use crate::shown::ViewKind;
 use crate::table::write_table;
-use geo_eval::Here;
+use geo_eval::{Here, Shown};
 use geo_sketch::{Kind, NoMemory};
 use geo_triple::Triple;
 use std::alloc::{AllocError, Global};
@@ -174,8 +175,8 @@ fn write_flat(
 
 /// Minus a·x + c for x = -10.
 fn at_minus_ten(a: i128, c: i128) -> i128
-    requires a_near { unsigned_abs a ≤ 2 ^ 41 }
-    requires c_near { unsigned_abs c ≤ 2 ^ 41 }
+    requires a_near { unsigned_abs a ≤ HEIGHT_LIMIT }
+    requires c_near { unsigned_abs c ≤ HEIGHT_LIMIT }
     ensures value { result ≡ pos 10 *ℤ a -ℤ c }
     ensures near { unsigned_abs result ≤ 2 ^ 45 }
 {
@@ -184,8 +185,8 @@ fn at_minus_ten(a: i128, c: i128) -> i128
 
 /// Minus a·x + c for x = 10.
 fn at_ten(a: i128, c: i128) -> i128
-    requires a_near { unsigned_abs a ≤ 2 ^ 41 }
-    requires c_near { unsigned_abs c ≤ 2 ^ 41 }
+    requires a_near { unsigned_abs a ≤ HEIGHT_LIMIT }
+    requires c_near { unsigned_abs c ≤ HEIGHT_LIMIT }
     ensures value { result ≡ neg_ℤ (pos 10) *ℤ a -ℤ c }
     ensures near { unsigned_abs result ≤ 2 ^ 45 }
 {
@@ -195,7 +196,7 @@ fn at_ten(a: i128, c: i128) -> i128
 fn upwards(p: i128, q: i128) -> i128
     requires near { unsigned_abs p ≤ 2 ^ 45 }
     requires divisor { q ≢ pos 0 }
-    requires small { unsigned_abs q ≤ 2 ^ 41 }
+    requires small { unsigned_abs q ≤ HEIGHT_LIMIT }
     ensures { result ≡ upwards p q }
 {
     -across(p, q)
@@ -204,7 +205,7 @@ fn upwards(p: i128, q: i128) -> i128
 fn across(p: i128, q: i128) -> i128
     requires near { unsigned_abs p ≤ 2 ^ 45 }
     requires divisor { q ≢ pos 0 }
-    requires small { unsigned_abs q ≤ 2 ^ 41 }
+    requires small { unsigned_abs q ≤ HEIGHT_LIMIT }
     ensures value { result ≡ across p q }
     ensures near { unsigned_abs result ≤ 2 ^ 52 }
 {
@@ -214,7 +215,7 @@ fn across(p: i128, q: i128) -> i128
 fn floor(p: i128, q: i128) -> i128
     requires near { unsigned_abs p ≤ 2 ^ 51 }
     requires divisor { q ≢ pos 0 }
-    requires small { unsigned_abs q ≤ 2 ^ 41 }
+    requires small { unsigned_abs q ≤ HEIGHT_LIMIT }
     ensures value { result ≡ floor_of p q }
     ensures near { unsigned_abs result ≤ 2 ^ 52 }
 {

@@ -1,7 +1,6 @@
 //! What a view is told.
 
-use geo_eval::Here;
-use geo_sketch::{Kind, Name};
+use geo_eval::Shown;
 
 /// What a view shows of its entries.
 #[derive(Clone, Copy, PartialEq, Eq, Debug)]
@@ -13,15 +12,6 @@ pub enum ViewKind {
     /// A picture of the plane with the kinds exchanged: each point is drawn as the line with
     /// the same coordinates, and each line as the point.
     DualPlane,
-}
-
-/// An entry of a view: an element, and where it is.
-#[derive(Clone, Copy)]
-pub struct Shown {
-    pub number: u32,
-    pub name: Name,
-    pub kind: Kind,
-    pub here: Here,
 }
 
 /// A change of what a view shows.

@@ -4,8 +4,7 @@ ghost use Rattle.std.specs.Prelude.{◌≡◌, ◌++◌, OnOk, codes};
 ghost use Rattle.std.specs.Fmt.{signed_decimal};
 ghost use Rattle.geo_view.specs.Pictures.{here_text, kind_word, table_line, table_text};
 
-use crate::shown::Shown;
-use geo_eval::Here;
+use geo_eval::{Here, Shown};
 use geo_sketch::Kind;
 use std::alloc::{AllocError, Global};
 

@@ -3,10 +3,10 @@
 ghost use Rattle.std.specs.Prelude.{◌≡◌, ◌≤◌, ◌^◌, unsigned_abs};
 ghost use Rattle.geo_view.specs.Entries.{AreNearChanges, IsNearChange};
 
-use crate::shown::{Change, Shown};
+use crate::shown::Change;
 use crate::view::View;
 use crate::views::{DualView, PlaneView, TableView};
-use geo_eval::Here;
+use geo_eval::{Here, Shown};
 use geo_sketch::{Kind, Name};
 use geo_triple::Triple;
 use std::test::Fail;

@@ -70,8 +70,9 @@ export class Editor {
     const short = whole === 'svg' ? text('answer_picture') : whole.startsWith('{') ? text('answer_certificate')
       : lines.length === 0 ? text('answer_empty') : lines.length === 1 && whole.length < 18 ? whole
       : lines.length === 1 ? lines[0].split(' ')[0] : text('answer_lines', { count: lines.length });
-    if (short === whole || !lines.length) return short;
-    return node('button', { title: whole.slice(0, 2000), class: whole.split(' ')[0], onclick: () => this.showWhole(at, whole) }, short);
+    if (!lines.length) return short;
+    if (short === whole) return node('span', { class: worst(lines) }, short);
+    return node('button', { title: whole.slice(0, 2000), class: worst(lines), onclick: () => this.showWhole(at, whole) }, short);
   }
 
   showWhole(at, whole) {
@@ -88,6 +89,11 @@ export class Editor {
     const list = node('ul', {}, ...refused.map(([word, at]) => node('li', {}, this.meaningOf(word, at))));
     byId('refusals').replaceChildren(...(refused.length ? [node('h3', {}, text('refused_title')), list] : []));
   }
+}
+
+// The verdict that an answer of many lines is coloured by.
+function worst(lines) {
+  return ['false', 'unsettled', 'proved'].find(verdict => lines.some(line => line.startsWith(`${verdict} `))) ?? lines[0].split(' ')[0];
 }
 
 // The answers of a line with slow commands, taken from the front of those that came.

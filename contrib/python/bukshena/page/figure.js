@@ -14,6 +14,7 @@ export class Figure {
     this.isDual = isDual;
     this.view = { x: 0, y: 0, scale: 40 };
     this.elements = [];
+    this.claims = [];
     this.nodes = new Map();
     this.marks = { lit: [], chosen: [], failing: [] };
     this.theorems = [];
@@ -24,6 +25,7 @@ export class Figure {
       svg.append(layer);
       return [name, layer];
     }));
+    this.measure();
     new ResizeObserver(() => this.draw()).observe(svg);
   }
 
@@ -33,8 +35,11 @@ export class Figure {
     return made;
   }
 
-  get width() { return this.svg.clientWidth || 600; }
-  get height() { return this.svg.clientHeight || 500; }
+  // The size is asked once a picture: between changes of nodes it would lay out the whole page each time.
+  measure() {
+    this.width = this.svg.clientWidth || 600;
+    this.height = this.svg.clientHeight || 500;
+  }
 
   // ---- places and pixels
 
@@ -102,17 +107,26 @@ export class Figure {
     this.draw();
   }
 
+  // The points, and those in which lines are claimed to meet.
+  placesToShow() {
+    const of = new Map(this.elements.map(element => [element.name, element]));
+    const claimed = this.claims.map(names => names.map(name => of.get(name)))
+      .filter(elements => elements.length === 3 && elements.every(element => element && this.kindOf(element) === 'line' && Array.isArray(element.place)))
+      .map(elements => sharedTriple(elements.map(element => element.place)));
+    return [...this.elements.filter(element => this.kindOf(element) === 'point').map(({ place }) => place), ...claimed];
+  }
+
   // Shows all points, each not too near to the edge.
   fit() {
-    const points = this.elements.filter(element => this.kindOf(element) === 'point' && Array.isArray(element.place) && element.place[2])
-      .map(({ place }) => [place[0] / place[2], place[1] / place[2]]);
+    this.measure();
+    const points = this.placesToShow().filter(place => Array.isArray(place) && place[2]).map(place => [place[0] / place[2], place[1] / place[2]]);
     if (points.length) {
       const [left, right] = middlePart(points.map(([x]) => x));
       const [low, high] = middlePart(points.map(([, y]) => y));
       const span = Math.max(right - left, (high - low) * this.width / this.height, 1e-6);
       const scale = right - left + high - low > 0
         ? (1 - 2 * MARGIN) * Math.min(this.width / Math.max(right - left, 1e-9), this.height / Math.max(high - low, 1e-9)) : 40;
-      this.view = { x: (left + right) / 2, y: (low + high) / 2, scale: Math.min(span > 1e-6 ? 160 : 40, Math.max(SMALLEST_SCALE, scale)) };
+      this.view = { x: (left + right) / 2, y: (low + high) / 2, scale: Math.min(span > 1e-6 ? (this.isDual ? LARGEST_SCALE : 160) : 40, Math.max(SMALLEST_SCALE, scale)) };
     } else {
       this.view = { x: 0, y: 0, scale: 40 };
     }
@@ -121,14 +135,17 @@ export class Figure {
 
   // ---- what is drawn
 
-  show(elements) {
+  // The claims are the names that each is about.
+  show(elements, claims = this.claims) {
     this.elements = elements;
+    this.claims = claims;
     this.draw();
   }
 
   // New places of some elements, by name: triples, or null.
   move(places) {
     for (const element of this.elements) if (element.name in places) element.place = places[element.name] ?? 'null';
+    this.measure();
     this.drawElements();
     this.drawTheorems();
     this.drawNames();
@@ -141,6 +158,7 @@ export class Figure {
   }
 
   draw() {
+    this.measure();
     this.drawGrid();
     this.drawElements();
     this.drawTheorems();
@@ -395,7 +413,7 @@ function sharedTriple(triples) {
 function middlePart(numbers) {
   const sorted = [...numbers].sort((a, b) => a - b), n = sorted.length;
   if (n < 5) return [sorted[0], sorted[n - 1]];
-  const low = sorted[Math.floor(n / 4)], high = sorted[Math.floor((3 * n) / 4)], reach = 3 * Math.max(high - low, 1e-9);
+  const low = sorted[Math.floor(n / 4)], high = sorted[Math.floor((3 * n) / 4)], reach = 10 * Math.max(high - low, 1e-9);
   const kept = sorted.filter(number => number >= low - reach && number <= high + reach);
   return [kept[0], kept[kept.length - 1]];
 }

@@ -277,7 +277,7 @@ export class Hand {
         const told = await this.asking(() => ask('move', { id: this.state.look.id, name: drag.element.name, place, turning }));
         if (this.drag !== drag || !told.nearest) continue;
         drag.nearest = told.nearest;
-        this.figure.move(told.places);
+        this.move(told.places);
         this.frames.push(performance.now());
         this.say(text('moved_to', { name: drag.element.name, values: told.nearest.join(' ') }));
       }
@@ -295,12 +295,12 @@ export class Hand {
     this.setTaken([]);
     const { element, nearest } = drag;
     if (isKept && nearest && nearest.join(' ') !== element.values.join(' ')) await this.writeDrag(element, nearest);
-    else this.figure.show(this.state.look.elements.map(one => ({ ...one })));
+    else this.showFigures(this.state.look.elements);
   }
 
   async writeDrag(element, values) {
     const told = await this.write([`drag ${element.name} ${values.join(' ')}`]);
-    if (!told) return this.figure.show(this.state.look.elements.map(one => ({ ...one })));
+    if (!told) return this.showFigures(this.state.look.elements);
     const pixels = Math.round(this.figure.view.scale);
     const isCoarse = element.how === 'free' && element.kind === 'point' && pixels > COARSE_PIXELS;
     return this.tell(text('moved_to', { name: element.name, values: values.join(' ') }) + (isCoarse ? ` — ${text('coarse', { pixels })}` : ''));

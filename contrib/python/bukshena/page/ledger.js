@@ -38,6 +38,7 @@ export class Ledger {
 
   show(entries) {
     this.entries = entries;
+    this.advised = new Set();
     const claims = entries.filter(entry => entry.claimed);
     const noticed = entries.filter(entry => !entry.claimed && !entry.built);
     const built = entries.filter(entry => !entry.claimed && entry.built);
@@ -65,9 +66,16 @@ export class Ledger {
     if (entry.claimed && entry.noticed) item.append(node('p', { class: 'note' }, text('noticed_too')));
     if (entry.verdict === 'false' && !entry.drags.length) item.append(node('p', { class: 'note' }, text('false_always')));
     if (entry.verdict === 'false' && entry.drags.length) item.append(node('p', { class: 'note' }, entry.values.join(', ')));
-    if (entry.verdict.startsWith('unsettled')) item.append(node('p', { class: 'note' }, text(entry.verdict.replace(' ', '_'))));
+    if (entry.verdict.startsWith('unsettled')) item.append(node('p', { class: 'note' }, this.adviceOf(entry)));
     item.append(this.actsOf(entry));
     return item;
+  }
+
+  // What an unsettled entry says and what helps: in full where it is the first with its limit.
+  adviceOf({ verdict }) {
+    const isFirst = !this.advised.has(verdict);
+    this.advised.add(verdict);
+    return text(isFirst ? verdict.replace(' ', '_') : 'unsettled_again');
   }
 
   actsOf(entry) {

@@ -21,7 +21,7 @@ const state = { look: null, undone: [], name: started.name, isFailing: null, ver
 const ledgers = new Map();
 const editor = new Editor(started.meanings, edited);
 const ledger = new Ledger({ light, fail, asking, save, script: () => editor.script });
-const hand = new Hand({ figure, state, library: started.library, meanings: started.meanings, write, say, tell, asking, editor, undo, redo, rename, insertTool });
+const hand = new Hand({ figure, state, library: started.library, meanings: started.meanings, write, move, showFigures, say, tell, asking, editor, undo, redo, rename, insertTool });
 
 figure.onDraw = showElsewhere;
 
@@ -74,13 +74,33 @@ function show(told, { isTyped = false } = {}) {
   if (!isTyped) editor.script = told.script;
   const known = ledgers.get(told.key);
   editor.show(told.lines, known?.slow);
-  figure.show(told.elements.map(element => ({ ...element })));
-  dualFigure.show(told.elements);
-  if (!before || (!before.elements.length && told.elements.length > 1)) figure.fit();
+  const claims = told.claims.map(claim => claim.split(' ').slice(1));
+  showFigures(told.elements, claims);
+  if (!before || (!before.elements.length && told.elements.length > 1) || isTurned(before, told)) figure.fit();
   if (!byId('dual-plane').hidden) dualFigure.fit();
   showHistory();
   hand.refresh();
   judge(told);
+}
+
+// Both figures have elements of their own, which are moved.
+function showFigures(elements, claims) {
+  for (const one of [figure, dualFigure]) one.show(elements.map(element => ({ ...element })), claims);
+}
+
+function move(places) {
+  figure.move(places);
+  if (!byId('dual-plane').hidden) dualFigure.move(places);
+}
+
+// Whether a point has become a line, so that the figure stands somewhere else.
+function isTurned(before, told) {
+  const kinds = new Map(before.elements.map(({ name, kind }) => [name, kind]));
+  return told.elements.some(({ name, kind }) => kinds.has(name) && kinds.get(name) !== kind);
+}
+
+function showTheorems(theorems) {
+  figure.theorems = dualFigure.theorems = theorems;
 }
 
 function showHistory() {
@@ -172,18 +192,24 @@ async function judge(told) {
   const known = ledgers.get(told.key);
   if (known) return showLedger(known);
   if (!told.elements.length && !told.lines.some(line => line.waits)) {
-    figure.theorems = [];
+    showTheorems([]);
     figure.draw();
     return ledger.showEmpty();
   }
   await askLedger(told);
 }
 
+let asked = 0;
+
+// The server ends the program of a question where the page asks anew. It may meet two questions in the other order,
+// so the last one is asked again where it was ended.
 async function askLedger(told) {
+  asked += 1;
+  const number = asked;
   const isCurrent = () => state.look.key === told.key;
   const began = performance.now();
   const tick = () => isCurrent() && ledger.showAsking(Math.round((performance.now() - began) / 1000), started.seconds);
-  figure.theorems = [];
+  showTheorems([]);
   figure.draw();
   tick();
   const clock = setInterval(tick, 1000);
@@ -195,15 +221,17 @@ async function askLedger(told) {
     if (isCurrent()) showLedger(judged);
   } catch (error) {
     clearInterval(clock);
-    if (isCurrent() && error.key !== 'superseded') ledger.showMissing(reason(error), () => judge(state.look));
+    if (!isCurrent()) return;
+    if (error.key !== 'superseded') ledger.showMissing(reason(error), () => judge(state.look));
+    else if (number === asked) await askLedger(told);
   }
 }
 
 function showLedger(judged) {
   ledger.show(judged.entries);
   editor.show(state.look.lines, judged.slow);
-  figure.theorems = judged.entries.filter(entry => entry.claimed && entry.verdict === 'proved' && entry.names.length > 1)
-    .map(entry => ({ names: entry.names, className: 'theorem' }));
+  showTheorems(judged.entries.filter(entry => entry.claimed && entry.verdict === 'proved' && entry.names.length > 1)
+    .map(entry => ({ names: entry.names, className: 'theorem' })));
   showLights();
 }
 
@@ -215,9 +243,10 @@ function light(names) {
 }
 
 function showLights() {
-  figure.theorems = figure.theorems.filter(({ className }) => className === 'theorem');
-  if (lit.length > 1) figure.theorems.push({ names: lit, className: 'lit-line' });
-  if (state.isFailing) figure.theorems.push({ names: state.isFailing.names, className: 'theorem false' });
+  const theorems = figure.theorems.filter(({ className }) => className === 'theorem');
+  if (lit.length > 1) theorems.push({ names: lit, className: 'lit-line' });
+  if (state.isFailing) theorems.push({ names: state.isFailing.names, className: 'theorem false' });
+  showTheorems(theorems);
   figure.mark('lit', lit);
   dualFigure.mark('lit', lit);
 }
@@ -317,6 +346,7 @@ async function begin(script, name = '') {
   state.undone = [];
   byId('name').textContent = name;
   endFailing();
+  tell('');
   editor.script = script;
   state.look = null;
   await look(script);
@@ -339,11 +369,11 @@ const ACTS = {
   'save-svg': () => savePicture('svg', 'svg', 'image/svg+xml'),
   'save-tikz': () => savePicture('tikz', 'tex'),
   undo, redo, larger, positions,
-  dual: async () => { if (await write(['dual'])) figure.fit(); },
+  dual: () => write(['dual']),
   'dual-beside': button => {
     byId('dual-plane').toggleAttribute('hidden', !press(button, !isPressed(button)));
     dualFigure.fit();
-    figure.draw();
+    figure.fit();
   },
   'names-shown': button => {
     figure.showNames = dualFigure.showNames = press(button, !isPressed(button));

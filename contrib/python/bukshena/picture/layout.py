@@ -1,196 +1,233 @@
-"""Where everything of a figure is drawn: the window, the ends of lines, and the places of names.
+"""Where everything of a figure stands on the paper: the window, lines cut to it, names beside their points.
 
-Lengths are tenths of a millimetre, from the upper left corner."""
-from dataclasses import dataclass, field
-from typing import List, Optional, Tuple
+All places are whole numbers of hundredths of a millimetre, from the upper left corner, y downwards. They are rounded once,
+from exact fractions, so the same figure has the same picture everywhere."""
+from dataclasses import dataclass
+from fractions import Fraction
+from math import isqrt
 
 from bukshena.faults import BAD_DATA, Fault
-from bukshena.figure import Tone
+from bukshena.figure import Dot, Figure, Stroke
+from bukshena.picture import names
+from bukshena.picture.window import Window, window_of
 
-MARGIN = 0.12
-FONT, LETTER, RADIUS = 30.0, 17.0, 7.0
-AWAY = 13.0
-# right above, left above, right below, left below, above, below, right, left
-PLACES = ((1, -1), (-1, -1), (1, 1), (-1, 1), (0, -1), (0, 1), (1, 0), (-1, 0))
+MILLIMETRE = 100
+DOT = 62
+RING = 125
+FURTHER = 320
+ARROW = 420
+ARROW_LINE = 700
 
-
-@dataclass
-class Segment:
-    start: Tuple[float, float]
-    end: Tuple[float, float]
-    tone: Optional[Tone] = None
-    is_dashed: bool = False
-    is_arrow: bool = False
+Place = tuple[int, int]
 
 
-@dataclass
+@dataclass(frozen=True)
+class Cut:
+    """A line as it is drawn: `whole` from edge to edge, `part` the piece over its points, or None where it has no two."""
+    stroke: Stroke
+    whole: tuple[Place, Place]
+    part: 'tuple[Place, Place] | None'
+
+
+@dataclass(frozen=True)
 class Spot:
-    place: Tuple[float, float]
-    tone: Optional[Tone] = None
-    has_name: bool = True
+    dot: Dot
+    at: Place
+
+
+@dataclass(frozen=True)
+class Arrow:
+    """For a point outside of the window, or at infinity."""
+    dot: Dot
+    start: Place
+    tip: Place
 
 
 @dataclass
-class Name:
-    """`place` is the middle of the name."""
-    text: str
-    place: Tuple[float, float]
-    tone: Optional[Tone] = None
+class Layout:
+    """Size and what is drawn, from the lowest to the uppermost."""
+    width: int
+    height: int
+    window: Window
+    polygons: list[tuple[Place, ...]]
+    cuts: list[Cut]
+    sides: list[Cut]
+    spots: list[Spot]
+    arrows: list[Arrow]
+    labels: list[names.Label]
+    figure: Figure
 
-    def box(self):
-        half = LETTER * len(self.text) / 2
-        x, y = self.place
-        return x - half, y - FONT / 2, x + half, y + FONT / 2
-
-
-@dataclass
-class Plan:
-    width: float
-    height: float
-    segments: List[Segment] = field(default_factory=list)
-    spots: List[Spot] = field(default_factory=list)
-    names: List[Name] = field(default_factory=list)
-    said: list = field(default_factory=list)
-    polygons: list = field(default_factory=list)
+    @property
+    def title(self):
+        """What the picture shows, in the program's words."""
+        said = [f'{said.tone.what} {said.statement}' for said in self.figure.said]
+        return ', '.join(said) or 'a figure of points and lines'
 
 
-def where(triple):
-    a, b, c = triple
-    return a / c, b / c
+class Paper:
+    """Maps the plane to the paper."""
+
+    def __init__(self, window):
+        self.window, self.width, self.height = window, window.width, window.height
+
+    def place(self, triple) -> Place:
+        a, b, c = triple
+        window = self.window
+        return rounded((Fraction(a, c) - window.left) * window.scale), rounded((window.top - Fraction(b, c)) * window.scale)
+
+    def holds(self, place):
+        return 0 <= place[0] <= self.width and 0 <= place[1] <= self.height
+
+    def direction(self, line) -> Place:
+        """Along a line on the paper, to the right, or upwards where it is upright."""
+        a, b, _ = line
+        return (-b, -a) if b < 0 else (b, a) if b > 0 else (0, -1)
+
+    def edge_to_edge(self, line):
+        """Where a line enters and leaves the paper, in its direction; None where it does not cross it."""
+        a, b, c = line
+        window = self.window
+        # on the paper the line is a x - b y + d = 0
+        d = c * window.scale + a * window.left * window.scale + b * window.top * window.scale
+        found = []
+        if b:
+            found += [(Fraction(x), (a * x + d) / b) for x in (0, self.width)]
+        if a:
+            found += [((b * y - d) / a, Fraction(y)) for y in (0, self.height)]
+        inside = sorted({p for p in found if 0 <= p[0] <= self.width and 0 <= p[1] <= self.height})
+        if len(inside) < 2:
+            return None
+        ends = [(rounded(x), rounded(y)) for x, y in (inside[0], inside[-1])]
+        along = self.direction(line)
+        return tuple(sorted(ends, key=lambda p: p[0] * along[0] + p[1] * along[1]))
 
 
-def window_of(figure, options):
-    """Left, low, right, high: the points of the plane with a margin."""
-    if options.window:
-        return options.window
-    places = [where(dot.triple) for dot in figure.dots.values() if not dot.is_far]
-    if not places:
-        if not figure.strokes:
-            raise Fault(BAD_DATA, 'no element of the screen can be drawn')
-        return -10.0, -10.0, 10.0, 10.0
-    xs, ys = [x for x, _ in places], [y for _, y in places]
-    wide, tall = max(xs) - min(xs), max(ys) - min(ys)
-    size = max(wide, tall) or 2.0
-    wide, tall = max(wide, size / 2), max(tall, size / 2)
-    across, up = (min(xs) + max(xs)) / 2, (min(ys) + max(ys)) / 2
-    half_wide, half_tall = wide / 2 + MARGIN * size, tall / 2 + MARGIN * size
-    return across - half_wide, up - half_tall, across + half_wide, up + half_tall
+def rounded(number) -> int:
+    """To the next whole number, halves upwards."""
+    return (2 * number.numerator + number.denominator) // (2 * number.denominator)
 
 
-class Planner:
+def step(direction, length) -> Place:
+    """A step of this length in a direction."""
+    dx, dy = direction
+    square = dx * dx + dy * dy
+
+    def part(d):
+        size = isqrt(length * length * d * d // square) if square else 0
+        return size if d >= 0 else -size
+    return part(dx), part(dy)
+
+
+def moved(place, by) -> Place:
+    return place[0] + by[0], place[1] + by[1]
+
+
+def within(start, end, bounds):
+    """A piece of a line cut to the piece `bounds` of the same line, by their order along it; None where they are apart."""
+    (sx, sy), (ex, ey) = bounds
+    dx, dy = ex - sx, ey - sy
+
+    def at(place):
+        return (place[0] - sx) * dx + (place[1] - sy) * dy
+    first, last = max(start, bounds[0], key=at), min(end, bounds[1], key=at)
+    return (first, last) if at(first) < at(last) else None
+
+
+class Maker:
     def __init__(self, figure, options):
         self.figure, self.options = figure, options
         self.window = window_of(figure, options)
-        left, low, right, high = self.window
-        self.scale = options.width * 10 / (right - left)
-        self.plan = Plan(options.width * 10.0, round((high - low) * self.scale, 2), said=figure.said)
+        self.paper = Paper(self.window)
 
-    def at(self, place):
-        return (place[0] - self.window[0]) * self.scale, (self.window[3] - place[1]) * self.scale
+    def made(self) -> Layout:
+        figure, paper = self.figure, self.paper
+        self.spots = [Spot(dot, paper.place(dot.triple)) for dot in figure.dots.values() if not dot.is_far]
+        self.outside = [spot for spot in self.spots if not paper.holds(spot.at)]
+        self.spots = [spot for spot in self.spots if paper.holds(spot.at)]
+        cuts = [cut for cut in map(self.cut, figure.strokes.values()) if cut]
+        sides = [cut for cut in map(self.cut, figure.sides) if cut]
+        arrows = self.arrows(cuts)
+        if not (self.spots or cuts or arrows):
+            raise Fault(BAD_DATA, 'there is nothing to draw: no element of the screen is in the picture')
+        polygons = [tuple(map(paper.place, polygon)) for polygon in figure.polygons]
+        layout = Layout(paper.width, paper.height, self.window, polygons, cuts, sides, self.spots, arrows, [], figure)
+        layout.labels = names.placed(layout, self.options)
+        return layout
 
-    def is_inside(self, place):
-        left, low, right, high = self.window
-        return left <= place[0] <= right and low <= place[1] <= high
+    # ---- lines
 
-    def made(self):
-        for stroke in self.figure.strokes.values():
-            self.add_stroke(stroke)
-        for side in self.figure.sides:
-            ends = [self.at(where(triple)) for triple in side.ends if triple[2]]
-            if len(ends) == 2:
-                self.plan.segments.append(Segment(*ends, side.tone, True))
-        for dot in self.figure.dots.values():
-            if not dot.is_far and self.is_inside(where(dot.triple)) and (dot.names or dot.tone):
-                self.plan.spots.append(Spot(self.at(where(dot.triple)), dot.tone, bool(dot.names)))
-        self.add_names()
-        return self.plan
+    def cut(self, stroke) -> 'Cut | None':
+        whole = self.paper.edge_to_edge(stroke.triple)
+        if whole is None or whole[0] == whole[1]:
+            return None
+        return Cut(stroke, whole, self.part(stroke, whole))
 
-    def add_stroke(self, stroke):
-        edge = self.edges(stroke.triple)
-        if edge is None:
-            return
-        places = sorted({where(dot.triple) for dot in self.figure.dots_on(stroke) if not dot.is_far})
-        if self.options.is_whole or len(places) < 2 or any(dot.is_far for dot in self.figure.dots_on(stroke)):
-            start, end = edge
+    def part(self, stroke, whole):
+        """The piece over the points on a line, a little further at both ends; None where there are less than two."""
+        if stroke.ends:
+            at = [self.paper.place(triple) for triple in stroke.ends if triple[2]]
+            further = 0
         else:
-            start, end = self.further(places[0], places[-1], edge)
-        tone = stroke.tone
-        self.plan.segments.append(Segment(self.at(start), self.at(end), tone, stroke.is_carrier and tone is None))
+            dots = [dot for dot in self.figure.dots_on(stroke) if not dot.is_far]
+            at = [self.paper.place(dot.triple) for dot in dots]
+            further = FURTHER
+        dx, dy = whole[1][0] - whole[0][0], whole[1][1] - whole[0][1]
+        at.sort(key=lambda p: p[0] * dx + p[1] * dy)
+        if not at:
+            return None
+        by = step((dx, dy), further)
+        start, end = moved(at[0], (-by[0], -by[1])), moved(at[-1], by)
+        if self.runs_far(stroke):
+            end = whole[1]
+        elif at[0] == at[-1]:
+            return None
+        return within(start, end, whole)
 
-    def further(self, first, last, edge):
-        """A little beyond the outer points, and not beyond the window."""
-        length = ((last[0] - first[0]) ** 2 + (last[1] - first[1]) ** 2) ** 0.5
-        more = 45.0 / self.scale / length
-        across, up = last[0] - first[0], last[1] - first[1]
-        ends = [(first[0] - more * across, first[1] - more * up), (last[0] + more * across, last[1] + more * up)]
-        return [end if self.is_inside(end) else self.nearest(end, edge) for end in ends]
+    def runs_far(self, stroke):
+        if stroke.ends:
+            return any(c == 0 for _, _, c in stroke.ends)
+        return any(dot.is_far for dot in self.figure.dots_on(stroke))
 
-    def nearest(self, place, edge):
-        return min(edge, key=lambda end: (end[0] - place[0]) ** 2 + (end[1] - place[1]) ** 2)
+    # ---- points that are not on the paper
 
-    def edges(self, triple):
-        """Where a line meets the window's edges, or None where it passes by."""
-        a, b, c = triple
-        left, low, right, high = self.window
-        found = [(x, (-a * x - c) / b) for x in (left, right) if b] + [((-b * y - c) / a, y) for y in (low, high) if a]
-        slack = (right - left) * 1e-9
-        inside = sorted({p for p in found if left - slack <= p[0] <= right + slack and low - slack <= p[1] <= high + slack})
-        return (inside[0], inside[-1]) if len(inside) > 1 else None
+    def arrows(self, cuts):
+        far = [dot for dot in self.figure.dots.values() if dot.is_far]
+        shown = [self.far_arrow(dot, cut) for dot in far for cut in self.cuts_to(dot, cuts)]
+        shown += [self.lonely_arrow(dot) for dot in far if not self.cuts_to(dot, cuts)]
+        if self.options.window is None:
+            shown += [self.outside_arrow(spot, cuts) for spot in self.outside if spot.dot.names]
+        return shown
 
-    # ---- names
+    def cuts_to(self, dot, cuts):
+        return [cut for cut in cuts if dot in self.figure.dots_on(cut.stroke)]
 
-    def add_names(self):
-        for dot in self.figure.dots.values():
-            if not dot.names:
-                continue
-            if dot.is_far:
-                self.add_direction(dot)
-            elif self.is_inside(where(dot.triple)):
-                self.add_name(' = '.join(dot.names), self.at(where(dot.triple)), dot.tone)
+    def far_arrow(self, dot, cut):
+        start, end = cut.whole
+        back = step((start[0] - end[0], start[1] - end[1]), ARROW)
+        return Arrow(dot, moved(end, back), end)
 
-    def add_direction(self, dot):
-        """A point at infinity is an arrow at the edge."""
+    def lonely_arrow(self, dot):
+        """A direction through which no line is drawn: an arrow from the middle of the paper to its edge."""
         a, b, _ = dot.triple
-        length = (a * a + b * b) ** 0.5
-        x, y = a / length, -b / length
-        middle, reach = (self.plan.width / 2, self.plan.height / 2), []
-        for k, size in enumerate((self.plan.width, self.plan.height)):
-            if abs((x, y)[k]) > 1e-9:
-                reach.append((size / 2 - 8) / abs((x, y)[k]))
-        far = min(reach)
-        end = middle[0] + x * far, middle[1] + y * far
-        start = middle[0] + x * (far - 60), middle[1] + y * (far - 60)
-        self.plan.segments.append(Segment(start, end, dot.tone, False, True))
-        self.add_name(' = '.join(dot.names), start, dot.tone)
+        return self.arrow_to(dot, (a, -b) if (b, a) > (0, 0) else (-a, b))
 
-    def add_name(self, text, place, tone):
-        options = [Name(text, (place[0] + across * (AWAY + LETTER * len(text) / 2), place[1] + down * (AWAY + FONT / 2)), tone)
-                   for across, down in PLACES]
-        self.plan.names.append(min(options, key=lambda name: round(self.cost(name.box()), 3)))
+    def outside_arrow(self, spot, cuts):
+        on = self.cuts_to(spot.dot, cuts)
+        if on:
+            end = min(on[0].whole, key=lambda p: (p[0] - spot.at[0]) ** 2 + (p[1] - spot.at[1]) ** 2)
+            start = on[0].whole[0] if end == on[0].whole[1] else on[0].whole[1]
+            back = step((start[0] - end[0], start[1] - end[1]), ARROW)
+            return Arrow(spot.dot, moved(end, back), end)
+        return self.arrow_to(spot.dot, (spot.at[0] - self.paper.width // 2, spot.at[1] - self.paper.height // 2))
 
-    def cost(self, box):
-        """How much of what is drawn the name would hide, and how far it is out of the picture."""
-        cost = 0.0
-        for spot in self.plan.spots:
-            x, y = spot.place
-            if box[0] - RADIUS < x < box[2] + RADIUS and box[1] - RADIUS < y < box[3] + RADIUS:
-                cost += 100
-        for other in self.plan.names:
-            b = other.box()
-            if box[0] < b[2] and b[0] < box[2] and box[1] < b[3] and b[1] < box[3]:
-                cost += 100
-        for segment in self.plan.segments:
-            cost += hidden(segment, box)
-        return cost + 1000 * (box[0] < 0 or box[1] < 0 or box[2] > self.plan.width or box[3] > self.plan.height)
+    def arrow_to(self, dot, direction):
+        dx, dy = direction
+        half = self.paper.width // 2, self.paper.height // 2
+        reach = [Fraction(size, abs(d)) for size, d in zip(half, (dx, dy)) if d]
+        tip = half[0] + rounded(min(reach) * dx), half[1] + rounded(min(reach) * dy)
+        back = step((-dx, -dy), ARROW_LINE)
+        return Arrow(dot, moved(tip, back), tip)
 
 
-def hidden(segment, box):
-    """How many of the points along a segment lie in the box, of one each four tenths of a millimetre."""
-    (x, y), (u, v) = segment.start, segment.end
-    count = max(2, int((abs(u - x) + abs(v - y)) / 4))
-    return sum(box[0] < x + (u - x) * k / count < box[2] and box[1] < y + (v - y) * k / count < box[3] for k in range(count + 1))
-
-
-def plan(figure, options):
-    """The plan of a figure. Fault 65 where there is nothing to draw."""
-    return Planner(figure, options).made()
+def layout_of(figure, options) -> Layout:
+    return Maker(figure, options).made()

@@ -2,11 +2,12 @@
 
 ghost use Rattle.std.specs.Prelude.{◌≡◌, ◌<◌, ◌++◌, ◌∷◌, [], IfOk, OnOk};
 ghost use Rattle.geo_sketch.specs.declared.elements.Def.TheVariants.{Free as FreeDef};
-ghost use Rattle.geo_sketch.specs.Assignments.{first_parameter, second_parameter};
+ghost use Rattle.geo_sketch.specs.Assignments.{first_parameter, second_parameter, own_parameters};
 ghost use Rattle.geo_sketch.specs.Lookups.{IsLive};
-ghost use Rattle.geo_sketch.specs.Sketches.{IsDrawn, number_limit};
+ghost use Rattle.geo_sketch.specs.Sketches.{IsDrawn};
+ghost use Rattle.geo_sketch.specs.declared.limits.TheConstants.{NUMBER_LIMIT};
 ghost use Rattle.geo_degree.specs.Blocks.{own_blocks};
-ghost use Rattle.geo_degree.specs.Grids.{axes_among, own_parameters};
+ghost use Rattle.geo_degree.specs.Grids.{axes_among};
 ghost use Rattle.geo_bracket.specs.Expressions.{expression_degree};
 ghost use Rattle.geo_bracket.specs.Questions.{expression_axes, expression_blocks};
 ghost use Rattle.geo_bracket.specs.Terms.{AtEach, IsSmall};
@@ -56,7 +57,7 @@ fn add_axes(
 ) -> Result<(), NoMemory>
     requires live { AtEach (IsLive degrees.now) terms.now }
     requires small { IsSmall terms.now }
-    requires low { element.now.number < number_limit }
+    requires low { element.now.number < NUMBER_LIMIT }
     requires same { element.now.def ≡ FreeDef → expression_degree degrees.now terms.now (first_parameter element.now.number) ≡ expression_degree degrees.now terms.now (second_parameter element.now.number) }
     ensures axes { OnOk result (axes.new.items ≡ axes.old.items ++ axes_among (expression_degree degrees.now terms.now) (own_parameters element.now.number element.now.def)) }
     ensures blocks { OnOk result (blocks.new.items ≡ blocks.old.items ++ own_blocks (expression_degree degrees.now terms.now) element.now.number element.now.def) }

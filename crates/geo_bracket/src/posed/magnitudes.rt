@@ -1,7 +1,7 @@
 //! Magnitudes of axes, as heights are asked for them.
 
 ghost use Rattle.std.specs.Prelude.{◌≡◌, ◌≤◌, length, map, take};
-ghost use Rattle.geo_sketch.specs.Sketches.{parameter_limit};
+ghost use Rattle.geo_sketch.specs.declared.limits.TheConstants.{PARAMETER_LIMIT};
 ghost use Rattle.geo_degree.specs.Grids.{axis_magnitude};
 ghost use Rattle.geo_grid.specs.Pairs.{paired};
 
@@ -14,9 +14,9 @@ pub(crate) type Pairs = [(u32, u64); PARAMETER_LIMIT];
 /// The pairs for a magnitude of each axis.
 pub(crate) fn pair_up(axes: &[Axis], magnitudes: &[u64]) -> Pairs
     requires count { length magnitudes.now ≡ length axes.now }
-    requires few { length axes.now ≤ parameter_limit }
+    requires few { length axes.now ≤ PARAMETER_LIMIT }
     ensures pairs { take (length axes.now) result ≡ paired axes.now magnitudes.now }
-    ensures room { length result ≡ parameter_limit }
+    ensures room { length result ≡ PARAMETER_LIMIT }
 {
     let mut pairs = [(0, 0); PARAMETER_LIMIT];
     for i in 0..axes.len() {
@@ -27,9 +27,9 @@ pub(crate) fn pair_up(axes: &[Axis], magnitudes: &[u64]) -> Pairs
 
 /// The pairs for the magnitudes on the grid of the axes.
 pub(crate) fn pair_on_grid(axes: &[Axis]) -> Pairs
-    requires { length axes.now ≤ parameter_limit }
+    requires { length axes.now ≤ PARAMETER_LIMIT }
     ensures pairs { take (length axes.now) result ≡ paired axes.now (map axis_magnitude axes.now) }
-    ensures room { length result ≡ parameter_limit }
+    ensures room { length result ≡ PARAMETER_LIMIT }
 {
     let mut pairs = [(0, 0); PARAMETER_LIMIT];
     for i in 0..axes.len() {

@@ -2,11 +2,12 @@
 
 ghost use Rattle.std.specs.Prelude.{◌≡◌, ◌≤◌, ℕ, ℤ, List, length, map, true, IfOk, OnOk};
 ghost use Rattle.geo_sketch.specs.Lookups.{IsLive};
-ghost use Rattle.geo_sketch.specs.Sketches.{IsDrawn, parameter_limit};
+ghost use Rattle.geo_sketch.specs.Sketches.{IsDrawn};
+ghost use Rattle.geo_sketch.specs.declared.limits.TheConstants.{PARAMETER_LIMIT};
 ghost use Rattle.geo_degree.specs.Grids.{axis_magnitude};
 ghost use Rattle.geo_degree.specs.Questions.{IsForm};
 ghost use Rattle.geo_grid.specs.declared.search.form.Scratch.{Scratch};
-ghost use Rattle.geo_grid.specs.Nodes.{short_limit};
+ghost use Rattle.geo_triple.specs.declared.limits.TheConstants.{SHORT_LIMIT};
 ghost use Rattle.geo_grid.specs.Plans.{moved_count};
 ghost use Rattle.geo_grid.specs.Ways.{triangle_one_way};
 ghost use Rattle.geo_grid.specs.Works.{AreLow, StandsFor};
@@ -20,19 +21,15 @@ use crate::expressions::{Expression, Term};
 use crate::heights::height;
 use crate::laws::expressions_are_forms;
 use crate::posed::axes::find_axes;
-use crate::posed::lane::{Short, Wide};
 use crate::posed::magnitudes::{pair_on_grid, pair_up};
 use crate::posed::places::{name_elements, place_terms};
 use crate::posed::values::is_not_zero;
 use geo_degree::{Axis, Block};
 use geo_grid::{Form, Plan, Scratch};
 use geo_sketch::{NoMemory, Sketch};
-use geo_triple::Steps;
+use geo_triple::{Narrow, SHORT_LIMIT, Steps, Wide};
 use std::alloc::Global;
 use std::sync::ledger::Ledger;
-
-/// The greatest number of 64 bits.
-const SHORT_LIMIT: u128 = (1 << 63) - 1;
 
 /// An expression over a sketch, both of which are borrowed: a sum of products of determinants
 /// over the plan for the elements that it names, each of which is evaluated once, however many
@@ -50,7 +47,7 @@ pub struct PosedZero<'a> {
     ghost form: { IsForm (expression_question plan.drawing.elements expression.now) } by { Prim.hlevel (props, triangle_one_way) },
     ghost planned: { plan ≡ planned_expression plan.drawing expression.now } by { Prim.hlevel props },
     ghost covered: { blocks.items ≡ expression_blocks plan.drawing.elements expression.now } by { Prim.hlevel props },
-    ghost short: { is_short ≡ true → expression_height_at plan.drawing.elements expression.now (map axis_magnitude plan.axes) ≤ short_limit } by { Prim.hlevel props },
+    ghost short: { is_short ≡ true → expression_height_at plan.drawing.elements expression.now (map axis_magnitude plan.axes) ≤ SHORT_LIMIT } by { Prim.hlevel props },
     ghost low: { (limit : ℕ) (ms : List ℕ) → expression_height_at plan.drawing.elements expression.now ms ≤ limit → AreLow limit plan ms } by { Prim.hlevel props },
     ghost asks: { (work : Scratch) (xs : List ℤ) → StandsFor plan work xs → AsksOf plan.drawing.elements expression.now placed.items work.triples.items xs } by { Prim.hlevel props },
 }
@@ -88,8 +85,8 @@ impl<'a> PosedZero<'a> {
 fn is_short(sketch: &Sketch, terms: &[Term<u32>], axes: &[Axis]) -> bool
     requires live { AtEach (IsLive sketch.now.elements) terms.now }
     requires axes { axes.now ≡ expression_axes sketch.now.elements terms.now }
-    requires few { length axes.now ≤ parameter_limit }
-    ensures { result ≡ true → expression_height_at sketch.now.elements terms.now (map axis_magnitude axes.now) ≤ short_limit }
+    requires few { length axes.now ≤ PARAMETER_LIMIT }
+    ensures { result ≡ true → expression_height_at sketch.now.elements terms.now (map axis_magnitude axes.now) ≤ SHORT_LIMIT }
 {
     let pairs = pair_on_grid(axes);
     match height(sketch, terms, &pairs[..axes.len()]) {
@@ -155,7 +152,7 @@ impl<'a> Form for PosedZero<'a> {
 
     fn failing(&self, work: &Scratch) -> bool {
         if self.is_short && self.plan.is_on_grid(work) {
-            is_not_zero::<Short>(&self.placed, &work.triples)
+            is_not_zero::<Narrow>(&self.placed, &work.triples)
         } else {
             is_not_zero::<Wide>(&self.placed, &work.triples)
         }

@@ -5,6 +5,7 @@ ghost use Rattle.geo_degree.specs.VerdictFunction.{verdict_of};
 ghost use Rattle.geo_bracket.specs.Expressions.{IsPosedExpression};
 ghost use Rattle.geo_bracket.specs.Questions.{expression_question};
 ghost use Rattle.geo_bracket.specs.Verdicts.{IsExpressionVerdict};
+ghost use Rattle.geo_board.specs.declared.limits.TheConstants.{WORKER_LIMIT};
 
 use crate::expressions::Expression;
 use crate::laws::verdicts_on_expressions;
@@ -26,7 +27,7 @@ pub fn settle_zero<R: Threads + Sync, G: Gate + Sync>(
     gate: &G,
 ) -> Result<Verdict, NoMemory>
     requires posed { IsPosedExpression sketch.now.elements expression.now }
-    requires workers { (0 < workers) × (workers ≤ 16) }
+    requires workers { (0 < workers) × (workers ≤ WORKER_LIMIT) }
     ensures function { IfOk result (λ r. r ≡ verdict_of (expression_question sketch.now.elements expression.now)) }
     ensures verdict { IfOk result (λ r. IsExpressionVerdict sketch.now.elements expression.now r) }
 {

@@ -1,14 +1,15 @@
 //! The axes of a statement, and the blocks that they make.
 
 ghost use Rattle.std.specs.Prelude.{◌≡◌, ◌<◌, ◌++◌, ◌∷◌, [], ℕ, IfOk, OnOk};
-ghost use Rattle.geo_sketch.specs.Assignments.{first_parameter, second_parameter};
-ghost use Rattle.geo_sketch.specs.Sketches.{IsDrawn, number_limit};
+ghost use Rattle.geo_sketch.specs.Assignments.{first_parameter, second_parameter, own_parameters};
+ghost use Rattle.geo_sketch.specs.Sketches.{IsDrawn};
+ghost use Rattle.geo_sketch.specs.declared.limits.TheConstants.{NUMBER_LIMIT};
 ghost use Rattle.geo_sketch.specs.Lookups.{IsLive};
 ghost use Rattle.geo_sketch.specs.declared.elements.Def.TheVariants.{Free as FreeDef};
 ghost use Rattle.geo_sketch.specs.Needs.{AtStated};
 ghost use Rattle.geo_degree.specs.Blocks.{blocks_of, own_blocks};
 ghost use Rattle.geo_degree.specs.Degrees.{statement_degree};
-ghost use Rattle.geo_degree.specs.Grids.{axes_among, axes_of, axis, own_parameters};
+ghost use Rattle.geo_degree.specs.Grids.{axes_among, axes_of, axis};
 
 use geo_degree::{Axis, Block, Degrees};
 use geo_sketch::{Def, Element, NoMemory, Sketch, Statement, first_parameter};
@@ -51,7 +52,7 @@ fn add_axes(
     blocks: &mut Vec<Block>,
 ) -> Result<(), NoMemory>
     requires live { AtStated statement.now (IsLive degrees.now) }
-    requires low { element.now.number < number_limit }
+    requires low { element.now.number < NUMBER_LIMIT }
     requires same { element.now.def ≡ FreeDef → statement_degree degrees.now statement.now (first_parameter element.now.number) ≡ statement_degree degrees.now statement.now (second_parameter element.now.number) }
     ensures axes { OnOk result (axes.new.items ≡ axes.old.items ++ axes_among (statement_degree degrees.now statement.now) (own_parameters element.now.number element.now.def)) }
     ensures blocks { OnOk result (blocks.new.items ≡ blocks.old.items ++ own_blocks (statement_degree degrees.now statement.now) element.now.number element.now.def) }

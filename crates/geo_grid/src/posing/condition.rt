@@ -1,13 +1,12 @@
 //! What a statement asks of the triples of its elements.
 
 ghost use Rattle.std.specs.Prelude.{◌≡◌, ◌≤◌, ◌↔◌, length, true, false};
-ghost use Rattle.geo_sketch.specs.Statements.{AreZero, coordinates};
+ghost use Rattle.geo_triple.specs.Zero.{AreZero, coordinates};
 ghost use Rattle.geo_grid.specs.Codes.{SpeaksOf, condition_by, condition_size, condition_parts, place_in};
 
-use crate::posing::lane::Lane;
 use crate::posing::plan::Plan;
 use geo_sketch::Statement;
-use geo_triple::Triple;
+use geo_triple::{Triple, Width};
 
 /// A statement about the triples at some places of a list.
 #[derive(Clone, Copy)]
@@ -37,16 +36,16 @@ pub(crate) fn condition_of(plan: &Plan, statement: &Statement) -> Condition
 }
 
 /// Whether one of its parts is not 0.
-pub(crate) fn is_broken<A: Lane>(condition: &Condition, triples: &[Triple]) -> bool
+pub(crate) fn is_broken<W: Width>(condition: &Condition, triples: &[Triple]) -> bool
     requires inside { SpeaksOf condition.now (length triples.now) }
-    requires low { condition_size condition.now triples.now ≤ A.limit }
+    requires low { condition_size condition.now triples.now ≤ W.limit }
     ensures { (result ≡ false) ↔ AreZero (condition_parts condition.now triples.now) }
 {
     match condition {
         Condition::Null(n) => !is_zero(&triples[*n]),
-        Condition::Same(n, m) => !is_zero(&A::cross(&triples[*n], &triples[*m])),
-        Condition::On(n, m) => A::dot(&triples[*n], &triples[*m]) != 0,
-        Condition::Triple(n, m, k) => A::det(&triples[*n], &triples[*m], &triples[*k]) != 0,
+        Condition::Same(n, m) => !is_zero(&W::cross(&triples[*n], &triples[*m])),
+        Condition::On(n, m) => W::dot(&triples[*n], &triples[*m]) != 0,
+        Condition::Triple(n, m, k) => W::det(&triples[*n], &triples[*m], &triples[*k]) != 0,
     }
 }
 

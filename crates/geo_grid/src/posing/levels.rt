@@ -2,7 +2,7 @@
 
 ghost use Rattle.std.specs.Prelude.{◌≡◌, ◌≤◌, length, slice_index_or};
 ghost use Rattle.geo_sketch.specs.Constructions.{by_def, IsConstruction};
-ghost use Rattle.geo_sketch.specs.Sketches.{element_limit};
+ghost use Rattle.geo_sketch.specs.declared.limits.TheConstants.{ELEMENT_LIMIT};
 ghost use Rattle.geo_sketch.specs.Tables.{Filled, place};
 ghost use Rattle.geo_grid.specs.Orders.{level_algebra, own_level as level_of_own};
 
@@ -12,7 +12,7 @@ use geo_sketch::{Def, ELEMENT_LIMIT, Element, element_of_parameter, place_of};
 /// For each element, by its place, how many axes there are up to the last one on which it
 /// depends.
 pub(crate) fn find_levels(elements: &[Element], axes: &[Axis]) -> [usize; ELEMENT_LIMIT]
-    requires room { length elements.now ≤ element_limit }
+    requires room { length elements.now ≤ ELEMENT_LIMIT }
     requires construction { IsConstruction elements.now }
     ensures { Filled (level_algebra axes.now) elements.now 0 result (length elements.now) }
 {

@@ -2,7 +2,7 @@
 
 ghost use Rattle.std.specs.Prelude.{◌≡◌, ◌≤◌, ◌<◌, length, slice_set, true, All};
 ghost use Rattle.geo_sketch.specs.Constructions.{AtNamed, IsConstruction};
-ghost use Rattle.geo_sketch.specs.Sketches.{element_limit};
+ghost use Rattle.geo_sketch.specs.declared.limits.TheConstants.{ELEMENT_LIMIT};
 ghost use Rattle.geo_sketch.specs.Tables.{place};
 ghost use Rattle.geo_sketch.specs.Lookups.{IsLive};
 ghost use Rattle.geo_grid.specs.Flags.{AreFlagged, AreNeeded, flagged_by};
@@ -12,7 +12,7 @@ use geo_sketch::{Def, ELEMENT_LIMIT, Element, place_of};
 /// For each element, by its place, whether it is a named one or one on which a named one
 /// depends: each marks those that its definition names, from the last element to the first.
 pub(crate) fn find_needed(elements: &[Element], named: &[u32]) -> [bool; ELEMENT_LIMIT]
-    requires room { length elements.now ≤ element_limit }
+    requires room { length elements.now ≤ ELEMENT_LIMIT }
     requires construction { IsConstruction elements.now }
     requires live { All (IsLive elements.now) named.now }
     ensures { AreNeeded elements.now named.now result }
@@ -28,7 +28,7 @@ pub(crate) fn find_needed(elements: &[Element], named: &[u32]) -> [bool; ELEMENT
 
 /// Flags the named elements.
 fn flag_named(elements: &[Element], named: &[u32]) -> [bool; ELEMENT_LIMIT]
-    requires room { length elements.now ≤ element_limit }
+    requires room { length elements.now ≤ ELEMENT_LIMIT }
     requires construction { IsConstruction elements.now }
     requires live { All (IsLive elements.now) named.now }
     ensures { AreFlagged elements.now named.now named.now result (length elements.now) }

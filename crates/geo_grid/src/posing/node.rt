@@ -4,8 +4,8 @@ ghost use Rattle.std.specs.Prelude.{◌≡◌, ◌≤◌, ◌+◌, length};
 ghost use Rattle.geo_sketch.specs.Triples.{of_coordinates};
 ghost use Rattle.geo_grid.specs.Nodes.{IsInside, axis_value, node_size, node_triple};
 
-use crate::posing::lane::Lane;
-use geo_triple::{Steps, Triple};
+use geo_sketch::of_values;
+use geo_triple::{Steps, Triple, Width};
 use std::sync::ledger::Ledger;
 
 /// How the triple of an element is computed. Operands stand by their places in the list
@@ -34,14 +34,14 @@ pub(crate) enum Node {
 }
 
 /// Evaluates an element: the only way to an evaluation, which ticks once.
-pub(crate) fn evaluate_node<A: Lane, L: Ledger>(
+pub(crate) fn evaluate_node<W: Width, L: Ledger>(
     node: &Node,
     triples: &[Triple],
     values: &[i64],
     steps: &mut Steps<L>,
 ) -> Triple
     requires inside { IsInside node.now (length triples.now) }
-    requires low { node_size node.now triples.now values.now ≤ A.limit }
+    requires low { node_size node.now triples.now values.now ≤ W.limit }
     ensures value { result ≡ node_triple node.now triples.now values.now }
     ensures tick { steps.new ≡ steps.old + 1 }
 {
@@ -49,11 +49,11 @@ pub(crate) fn evaluate_node<A: Lane, L: Ledger>(
     match node {
         Node::Free { x, y } => of_values(value_at(values, *x), value_at(values, *y), 1),
         Node::Fixed(a, b, c) => of_values(*a, *b, *c),
-        Node::Cut { of, by } => A::cut(&triples[*of], value_at(values, *by)),
+        Node::Cut { of, by } => W::cut(&triples[*of], value_at(values, *by)),
         Node::Blend { first, second, by } => {
-            A::blend(&triples[*first], &triples[*second], value_at(values, *by))
+            W::blend(&triples[*first], &triples[*second], value_at(values, *by))
         }
-        Node::Cross { first, second } => A::cross(&triples[*first], &triples[*second]),
+        Node::Cross { first, second } => W::cross(&triples[*first], &triples[*second]),
     }
 }
 
@@ -63,15 +63,5 @@ fn value_at(values: &[i64], place: usize) -> i64
     match values.get(place) {
         Some(value) => *value,
         None => 0,
-    }
-}
-
-fn of_values(a: i64, b: i64, c: i64) -> Triple
-    ensures { result ≡ of_coordinates a b c }
-{
-    Triple {
-        a: i128::from(a),
-        b: i128::from(b),
-        c: i128::from(c),
     }
 }

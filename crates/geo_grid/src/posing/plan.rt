@@ -2,19 +2,19 @@
 //! found without memory and without any look-up.
 
 ghost use Rattle.std.specs.Prelude.{◌≡◌, ◌≤◌, ◌<◌, ◌+◌, ◌-◌, ◌⊎◌, ℕ, ℤ, List, ◌∷◌, [], length, map, true, false, All, Contains, IfOk, OnOk, unsigned_abs};
-ghost use Rattle.geo_height.specs.Capped.{statement_limit};
+ghost use Rattle.geo_triple.specs.declared.limits.TheConstants.{STATEMENT_LIMIT, SHORT_LIMIT};
 ghost use Rattle.geo_degree.specs.Grids.{axis_magnitude};
-ghost use Rattle.geo_sketch.specs.Sketches.{IsDrawn, parameter_limit};
+ghost use Rattle.geo_sketch.specs.Sketches.{IsDrawn};
+ghost use Rattle.geo_sketch.specs.declared.limits.TheConstants.{PARAMETER_LIMIT};
 ghost use Rattle.geo_sketch.specs.Lookups.{IsLive};
 ghost use Rattle.geo_grid.specs.Codes.{place_in};
-ghost use Rattle.geo_grid.specs.Nodes.{short_limit, triple_there};
+ghost use Rattle.geo_grid.specs.Nodes.{triple_there};
 ghost use Rattle.geo_grid.specs.Orders.{order_of, start_of};
 ghost use Rattle.geo_grid.specs.Plans.{moved_count};
 ghost use Rattle.geo_grid.specs.Values.{AgreeBefore};
 ghost use Rattle.geo_grid.specs.Works.{AreLow, HasPlace, IsFresh, IsOnGridFrom, StandsFor, triples_of};
 
 use crate::posing::encoding::encode;
-use crate::posing::lane::{Lane, Short, Wide};
 use crate::posing::magnitudes::are_on_grid;
 use crate::posing::node::{Node, evaluate_node};
 use crate::posing::order::find_order;
@@ -23,7 +23,7 @@ use crate::search::Scratch;
 use crate::spacing::spaced;
 use geo_degree::Axis;
 use geo_sketch::{Element, NoMemory, Sketch, place_of};
-use geo_triple::{Steps, Triple};
+use geo_triple::{Narrow, Steps, Triple, Wide, Width};
 use std::alloc::Global;
 use std::marker::Model;
 use std::sync::ledger::Ledger;
@@ -80,7 +80,7 @@ impl<'a> Plan<'a> {
         axes: Vec<Axis>,
     ) -> Result<Plan<'a>, NoMemory>
         requires live { All (IsLive sketch.now.elements) named.items }
-        requires few { length axes.items ≤ parameter_limit }
+        requires few { length axes.items ≤ PARAMETER_LIMIT }
         ensures { IfOk result (λ plan. plan ≡ record { drawing = sketch.now; named = named.items; axes = axes.items }) }
     {
         let is_short = are_short_elements(sketch, &named, &axes);
@@ -96,7 +96,7 @@ impl<'a> Plan<'a> {
         is_short: bool,
     ) -> Result<Plan<'a>, NoMemory>
         requires live { All (IsLive sketch.now.elements) named.items }
-        requires short { is_short ≡ true → AreLow short_limit (record { drawing = sketch.now; named = named.items; axes = axes.items }) (map axis_magnitude axes.items) }
+        requires short { is_short ≡ true → AreLow SHORT_LIMIT (record { drawing = sketch.now; named = named.items; axes = axes.items }) (map axis_magnitude axes.items) }
         ensures { IfOk result (λ plan. plan ≡ record { drawing = sketch.now; named = named.items; axes = axes.items }) }
     {
         let order = find_order(alloc, sketch, &named, &axes)?;
@@ -184,7 +184,7 @@ impl<'a> Plan<'a> {
         steps: &mut Steps<L>,
     )
         requires count { length values.now ≡ length self.now.axes }
-        requires low { AreLow statement_limit self.now (map unsigned_abs values.now) }
+        requires low { AreLow STATEMENT_LIMIT self.now (map unsigned_abs values.now) }
         requires work { IsFresh self.now work.old ⊎ ((xs : List ℤ) × StandsFor self.now work.old xs × AgreeBefore first xs values.now) }
         ensures stands { StandsFor self.now work.new values.now }
         ensures ticks { ¬ IsFresh self.now work.old → steps.new ≡ steps.old + moved_count self.now first }
@@ -193,7 +193,7 @@ impl<'a> Plan<'a> {
         let (from, start) = self.begin(mark == FRESH, first);
         if self.takes_lane(mark == WIDE, values, from) {
             put_mark(&mut work.numbers, SHORT);
-            self.evaluate::<Short, L>(values, start, &mut work.triples, steps);
+            self.evaluate::<Narrow, L>(values, start, &mut work.triples, steps);
         } else {
             put_mark(&mut work.numbers, WIDE);
             self.evaluate::<Wide, L>(values, start, &mut work.triples, steps);
@@ -214,7 +214,7 @@ impl<'a> Plan<'a> {
     /// which the others are is gone on from.
     fn takes_lane(&self, was_wide: bool, values: &[i64], from: usize) -> bool
         requires { length values.now ≡ length self.now.axes }
-        ensures low { result ≡ true → AreLow short_limit self.now (map axis_magnitude self.now.axes) }
+        ensures low { result ≡ true → AreLow SHORT_LIMIT self.now (map axis_magnitude self.now.axes) }
         ensures on_grid { result ≡ true → IsOnGridFrom from self.now.axes values.now }
         ensures narrow { result ≡ true → was_wide ≡ false }
     {
@@ -230,7 +230,7 @@ impl<'a> Plan<'a> {
     }
 
     /// Evaluates the elements from a place on, where those before it stand.
-    fn evaluate<A: Lane, L: Ledger>(
+    fn evaluate<W: Width, L: Ledger>(
         &self,
         values: &[i64],
         start: usize,
@@ -238,7 +238,7 @@ impl<'a> Plan<'a> {
         steps: &mut Steps<L>,
     )
         requires count { length values.now ≡ length self.now.axes }
-        requires low { AreLow A.limit self.now (map unsigned_abs values.now) }
+        requires low { AreLow W.limit self.now (map unsigned_abs values.now) }
         requires room { length triples.old ≡ length (order_of self.now) }
         requires within { start ≤ length (order_of self.now) }
         requires before { (k : ℕ) → k < start → triple_there triples.old k ≡ triple_there (triples_of self.now values.now) k }
@@ -246,7 +246,7 @@ impl<'a> Plan<'a> {
         ensures ticks { steps.new ≡ steps.old + (length (order_of self.now) - start) }
     {
         for i in start..self.nodes.len() {
-            let triple = evaluate_node::<A, L>(&self.nodes[i], triples, values, steps);
+            let triple = evaluate_node::<W, L>(&self.nodes[i], triples, values, steps);
             triples[i] = triple;
         }
     }

@@ -9,7 +9,7 @@ ghost use Rattle.geo_degree.specs.Questions.{IsForm};
 ghost use Rattle.geo_degree.specs.Verdicts.{question_of, statement_height_at};
 ghost use Rattle.geo_grid.specs.declared.search.form.Scratch.{Scratch};
 ghost use Rattle.geo_grid.specs.Codes.{Asks};
-ghost use Rattle.geo_grid.specs.Nodes.{short_limit};
+ghost use Rattle.geo_triple.specs.declared.limits.TheConstants.{SHORT_LIMIT};
 ghost use Rattle.geo_grid.specs.Plans.{moved_count, planned_for};
 ghost use Rattle.geo_grid.specs.Ways.{speaks_one_way, triangle_one_way};
 ghost use Rattle.geo_grid.specs.Works.{AreLow, StandsFor};
@@ -17,7 +17,6 @@ ghost use Rattle.std.proofs.Props.{props};
 
 use crate::posing::axes::find_axes;
 use crate::posing::condition::{Condition, condition_of, is_broken};
-use crate::posing::lane::{Short, Wide};
 use crate::posing::magnitudes::pair_up;
 use crate::posing::plan::Plan;
 use crate::posing::shortness::{are_short_elements, is_short_statement};
@@ -25,7 +24,7 @@ use crate::search::{Form, Scratch};
 use geo_degree::{Axis, Block, statements_are_forms};
 use geo_height::of_statement;
 use geo_sketch::{NoMemory, Sketch, Statement};
-use geo_triple::Steps;
+use geo_triple::{Narrow, Steps, Wide};
 use std::alloc::Global;
 use std::sync::ledger::Ledger;
 
@@ -44,7 +43,7 @@ pub struct Posed<'a> {
     ghost form: { IsForm (question_of plan.drawing.elements statement) } by { Prim.hlevel (props, triangle_one_way) },
     ghost planned: { plan ≡ planned_for plan.drawing statement } by { Prim.hlevel props },
     ghost covered: { blocks.items ≡ blocks_of plan.drawing.elements statement } by { Prim.hlevel props },
-    ghost short: { is_short ≡ true → statement_height_at plan.drawing.elements statement (map axis_magnitude plan.axes) ≤ short_limit } by { Prim.hlevel props },
+    ghost short: { is_short ≡ true → statement_height_at plan.drawing.elements statement (map axis_magnitude plan.axes) ≤ SHORT_LIMIT } by { Prim.hlevel props },
     ghost low: { (limit : ℕ) (ms : List ℕ) → statement_height_at plan.drawing.elements statement ms ≤ limit → AreLow limit plan ms } by { Prim.hlevel props },
     ghost asks: { (work : Scratch) (xs : List ℤ) → StandsFor plan work xs → Asks plan.drawing.elements statement condition work.triples.items xs } by { Prim.hlevel (props, speaks_one_way) },
 }
@@ -144,7 +143,7 @@ impl<'a> Form for Posed<'a> {
 
     fn failing(&self, work: &Scratch) -> bool {
         if self.is_short && self.plan.is_on_grid(work) {
-            is_broken::<Short>(&self.condition, &work.triples)
+            is_broken::<Narrow>(&self.condition, &work.triples)
         } else {
             is_broken::<Wide>(&self.condition, &work.triples)
         }

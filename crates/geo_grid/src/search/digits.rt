@@ -3,8 +3,8 @@
 ghost use Rattle.std.specs.Prelude.{◌≡◌, ◌<◌, ◌≤◌, ◌+◌, suc, ℕ, List, ◌∷◌, ◌++◌, [], length, map, take, All};
 ghost use Rattle.geo_degree.specs.Blocks.{AreDigits, point_count as count_of, points_of_all, rank, rows_before};
 ghost use Rattle.geo_degree.specs.Grids.{grid_size, grid_value as value_at_number};
-ghost use Rattle.geo_degree.specs.Questions.{size_limit};
 ghost use Rattle.geo_grid.specs.Values.{axis_count};
+ghost use Rattle.geo_degree.specs.declared.limits.TheConstants.{SIZE_LIMIT};
 
 use super::sizes::point_count;
 use geo_degree::{Block, grid_value};
@@ -13,7 +13,7 @@ use geo_degree::{Block, grid_value};
 /// `size` points.
 pub(crate) fn write_digits(blocks: &[Block], size: u64, index: u64, digits: &mut [u64])
     requires size { size ≡ grid_size (points_of_all blocks.now) }
-    requires small { size ≤ size_limit }
+    requires small { size ≤ SIZE_LIMIT }
     requires within { index < size }
     requires room { length digits.old ≡ axis_count blocks.now }
     ensures digits { AreDigits blocks.now digits.new }
@@ -69,7 +69,7 @@ fn place_in_triangle(degree: u64, number: u64) -> (u64, u64)
 /// Writes the values whose numbers are the digits.
 pub(crate) fn write_values(digits: &[u64], values: &mut [i64])
     requires count { length values.old ≡ length digits.now }
-    requires small { All (λ d. d ≤ size_limit) digits.now }
+    requires small { All (λ d. d ≤ SIZE_LIMIT) digits.now }
     ensures { values.new ≡ map value_at_number digits.now }
 {
     for place in 0..digits.len() {

@@ -21,7 +21,8 @@ pub struct Scratch {
 /// stand for some, and `failing` tells of the parts there.
 pub trait Form {
     ghost use Rattle.std.specs.Prelude.{◌≡◌, ◌≤◌, ◌+◌, ◌^◌, ◌⊎◌, ◌↔◌, ℕ, ℤ, List, length, map, All, IfOk, false, unsigned_abs};
-    ghost use Rattle.geo_height.specs.Capped.{statement_limit, within_limit};
+    ghost use Rattle.geo_height.specs.Capped.{within_limit};
+    ghost use Rattle.geo_triple.specs.declared.limits.TheConstants.{STATEMENT_LIMIT};
     ghost use Rattle.geo_degree.specs.Questions.{Question, IsForm, IsZeroAt};
     ghost use Rattle.geo_grid.specs.Values.{AgreeBefore};
     ghost use Rattle.geo_grid.specs.declared.search.form.Scratch.{Scratch};
@@ -77,7 +78,7 @@ pub trait Form {
         steps: &mut Steps<L>,
     )
         requires count { length values.now ≡ length (question self.now).axes }
-        requires low { (question self.now).height_at (map unsigned_abs values.now) ≤ statement_limit }
+        requires low { (question self.now).height_at (map unsigned_abs values.now) ≤ STATEMENT_LIMIT }
         requires work { is_fresh self.now work.old ⊎ ((xs : List ℤ) × stands_for self.now work.old xs × AgreeBefore first xs values.now) }
         ensures stands { stands_for self.now work.new values.now }
         ensures ticks { ¬ is_fresh self.now work.old → steps.new ≤ steps.old + moved_count self.now first };

@@ -1,12 +1,13 @@
 //! The grid of a form.
 
 ghost use Rattle.std.specs.Prelude.{◌≡◌, ◌<◌, ◌≤◌, ◌↔◌, IfOk, Err, IsTrue, All, length, map};
-ghost use Rattle.geo_height.specs.Capped.{statement_limit};
+ghost use Rattle.geo_triple.specs.declared.limits.TheConstants.{STATEMENT_LIMIT};
 ghost use Rattle.geo_degree.specs.Blocks.{points_of_all};
 ghost use Rattle.geo_degree.specs.Grids.{axis_magnitude, grid_point, grid_size};
-ghost use Rattle.geo_degree.specs.Questions.{IsWithinLimits, grid_magnitudes, grid_of, size_limit};
+ghost use Rattle.geo_degree.specs.Questions.{IsWithinLimits, grid_magnitudes, grid_of};
 ghost use Rattle.geo_grid.specs.Values.{axis_count};
 ghost use Rattle.geo_grid.specs.Walks.{wheels_of};
+ghost use Rattle.geo_degree.specs.declared.limits.TheConstants.{SIZE_LIMIT};
 
 use super::digits::{write_digits, write_values};
 use super::form::Form;
@@ -36,11 +37,11 @@ pub struct Grid {
 
 impl Model for Grid {
     ghost use Rattle.std.specs.Prelude.{◌≡◌, ◌≤◌, List};
-    ghost use Rattle.geo_sketch.specs.Sketches.{parameter_limit};
+    ghost use Rattle.geo_sketch.specs.declared.limits.TheConstants.{PARAMETER_LIMIT};
+    ghost use Rattle.geo_degree.specs.declared.limits.TheConstants.{SIZE_LIMIT};
     ghost use Rattle.geo_degree.specs.declared.grids.Block.{Block};
     ghost use Rattle.geo_degree.specs.Blocks.{points_of_all};
     ghost use Rattle.geo_degree.specs.Grids.{grid_size};
-    ghost use Rattle.geo_degree.specs.Questions.{size_limit};
     ghost use Rattle.geo_grid.specs.Values.{axis_count};
     ghost use Rattle.geo_grid.specs.Walks.{wheels_of};
 
@@ -51,8 +52,8 @@ impl Model for Grid {
     ghost invariant = { λ g.
         (g.wheels.items ≡ wheels_of g.blocks.items) ×
         (g.size ≡ grid_size (points_of_all g.blocks.items)) ×
-        (g.size ≤ size_limit) ×
-        (axis_count g.blocks.items ≤ parameter_limit) };
+        (g.size ≤ SIZE_LIMIT) ×
+        (axis_count g.blocks.items ≤ PARAMETER_LIMIT) };
 }
 
 impl Grid {
@@ -60,8 +61,8 @@ impl Grid {
     /// a height of 2^126 at the magnitudes of its axes.
     pub fn of<F: Form>(alloc: Global, form: &F) -> Result<Grid, GridStop>
         ensures grid { IfOk result (λ g. (g ≡ (F.question form.now).blocks) × IsWithinLimits (F.question form.now)) }
-        ensures size { (result ≡ Err (GridStop.Past Past.Size)) ↔ (size_limit < grid_size (grid_of (F.question form.now))) }
-        ensures height { (result ≡ Err (GridStop.Past Past.Height)) ↔ ((grid_size (grid_of (F.question form.now)) ≤ size_limit) × (statement_limit < (F.question form.now).height_at (grid_magnitudes (F.question form.now)))) }
+        ensures size { (result ≡ Err (GridStop.Past Past.Size)) ↔ (SIZE_LIMIT < grid_size (grid_of (F.question form.now))) }
+        ensures height { (result ≡ Err (GridStop.Past Past.Height)) ↔ ((grid_size (grid_of (F.question form.now)) ≤ SIZE_LIMIT) × (STATEMENT_LIMIT < (F.question form.now).height_at (grid_magnitudes (F.question form.now)))) }
     {
         let blocks = form.blocks();
         let Some(size) = size_within_limit(blocks) else {
@@ -86,7 +87,7 @@ impl Grid {
     /// How many points it has.
     pub fn size(&self) -> u64
         ensures size { result ≡ grid_size (points_of_all self.now) }
-        ensures small { result ≤ size_limit }
+        ensures small { result ≤ SIZE_LIMIT }
     {
         self.size
     }
@@ -121,8 +122,8 @@ impl Grid {
 /// Whether the height of a form is within its limit at the magnitudes of the axes. It takes
 /// no memory.
 fn is_low<F: Form>(form: &F) -> bool
-    requires { grid_size (grid_of (F.question form.now)) ≤ size_limit }
-    ensures { IsTrue result ↔ ((F.question form.now).height_at (grid_magnitudes (F.question form.now)) ≤ statement_limit) }
+    requires { grid_size (grid_of (F.question form.now)) ≤ SIZE_LIMIT }
+    ensures { IsTrue result ↔ ((F.question form.now).height_at (grid_magnitudes (F.question form.now)) ≤ STATEMENT_LIMIT) }
 {
     let axes = form.axes();
     let mut magnitudes = [0; PARAMETER_LIMIT];
@@ -134,7 +135,7 @@ fn is_low<F: Form>(form: &F) -> bool
 /// Writes the magnitude of each axis: half its degree, rounded up.
 fn write_magnitudes(axes: &[Axis], magnitudes: &mut [u64])
     requires count { length magnitudes.old ≡ length axes.now }
-    requires small { All (λ a. a.degree ≤ size_limit) axes.now }
+    requires small { All (λ a. a.degree ≤ SIZE_LIMIT) axes.now }
     ensures { magnitudes.new ≡ map axis_magnitude axes.now }
 {
     for place in 0..axes.len() {

@@ -3,9 +3,9 @@
 ghost use Rattle.std.specs.Prelude.{◌≡◌, ◌<◌, ◌≤◌, ◌+◌, ◌-◌, ◌∷◌, ◌++◌, ℕ, [], length, slice_index_or, IfOk, OnOk};
 ghost use Rattle.geo_degree.specs.Blocks.{points_of_all};
 ghost use Rattle.geo_degree.specs.Grids.{grid_size};
-ghost use Rattle.geo_degree.specs.Questions.{size_limit};
 ghost use Rattle.geo_grid.specs.Walks.{StandsAt, wheels_of, wheel_limit};
 ghost use Rattle.geo_grid.specs.Values.{first_change};
+ghost use Rattle.geo_degree.specs.declared.limits.TheConstants.{SIZE_LIMIT};
 
 use super::grid::Grid;
 use geo_degree::{Block, grid_value};
@@ -56,7 +56,7 @@ fn add_wheel(wheel: Wheel, wheels: &mut Vec<Wheel>) -> Result<(), NoMemory>
 /// Makes the digits and the values at a point those at the next one, and gives the place of
 /// the first that change. Those before it are not written.
 pub(crate) fn carry(grid: &Grid, digits: &mut [u64], values: &mut [i64]) -> usize
-    requires small { grid_size (points_of_all grid.now) ≤ size_limit }
+    requires small { grid_size (points_of_all grid.now) ≤ SIZE_LIMIT }
     requires stands { (i : ℕ) × StandsAt grid.now i digits.old values.old × (i + 1 < grid_size (points_of_all grid.now)) }
     ensures next { (i : ℕ) → StandsAt grid.now i digits.old values.old → StandsAt grid.now (i + 1) digits.new values.new }
     ensures change { result ≡ first_change values.old values.new }

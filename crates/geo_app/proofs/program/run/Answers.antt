@@ -1,4 +1,4 @@
-use Rattle.std.proofs.Common.{◌≡◌, ◌∙◌, false}
+use Rattle.std.proofs.Common.{◌≡◌, ◌∙◌, refl}
 use Rattle.geo_view.specs.Walls.{sights}
 use Rattle.geo_session.specs.Views.{empty_views, kinds_of}
 use Rattle.geo_io.specs.Lines.{lines_of}
@@ -15,7 +15,7 @@ pub returns-clause-headline : goal.returns-clause-headline
 returns-clause-headline g c =
     let kinds = kinds_of (λ b. (goal.View-dyn g (b.vtable, b.value)).sight b.value) c.args.views.items in
     let shown : sights (λ b. (goal.View-dyn g (b.vtable, b.value)).sight b.value) c.in-Ok.wall ≡ empty_views kinds = c.in-Ok.ensures ∙ boxes_empty (λ b. (goal.View-dyn g (b.vtable, b.value)).sight b.value) c.args.views.items c.requires.empty in
-    let carried = c.carry_out.ensures.carried (script_course (beginning kinds) false) (c.new-replies.ensures kinds shown) (silent (beginning kinds) false) in
+    let carried = c.carry_out.ensures.carried (script_course (beginning kinds)) (beginning kinds, c.new-script.ensures kinds shown, refl) (silent (beginning kinds)) in
     let alike = c.long_lines_are_answered_alike.ensures in (
       carried.0,
       carried.1,
@@ -25,7 +25,7 @@ returns-clause-headline g c =
 pub returns-in-Err-clause-headline : goal.returns-in-Err-clause-headline
 returns-in-Err-clause-headline g c =
     let kinds = kinds_of (λ b. (goal.View-dyn g (b.vtable, b.value)).sight b.value) c.args.views.items in
-    let carried = none_carried (script_course (beginning kinds) false) 201 (g.S.Source.left c.args.source.now) (g.K.Sink.held c.args.sink.now) in
+    let carried = none_carried (script_course (beginning kinds)) 201 (g.S.Source.left c.args.source.now) (g.K.Sink.held c.args.sink.now) in
     let alike = c.long_lines_are_answered_alike.ensures in (
       carried.0,
       carried.1,

@@ -1,4 +1,4 @@
-use Rattle.std.proofs.Common.{rules, ◌≡◌, map, Some}
+use Rattle.std.proofs.Common.{◌≡◌, map, Some}
 use Rattle.std.proofs.lemmas.Result.{IfOk-weaker}
 use Rattle.geo_batch.proofs.Gathering.{all_done}
 use Rattle.geo_batch.proofs.jobs.run_all.Goals as goal

@@ -4,7 +4,8 @@ use Rattle.std.proofs.lemmas.Bool.{cases_lt}
 use Rattle.geo_sketch.specs.PlainHeights.{threes}
 use Rattle.geo_sketch.proofs.SketchLaws.{constructed}
 use Rattle.geo_height.specs.Bounds.{magnitude_of}
-use Rattle.geo_height.specs.Capped.{statement_limit, within_limit}
+use Rattle.geo_height.specs.Capped.{within_limit}
+use Rattle.geo_triple.specs.declared.limits.TheConstants.{STATEMENT_LIMIT}
 use Rattle.geo_height.proofs.CappedLaws.{far, near}
 use Rattle.geo_bracket.specs.Expressions.{expression_height}
 use Rattle.geo_bracket.proofs.ThreeLaws.{expression_same}
@@ -21,14 +22,14 @@ by_some : (r : Bool) → true ≡ not r → ¬ (r ≡ true)
 by_some true e t = absurd cc
 by_some false e t = absurd cc
 
-tells : (h : ℕ) (o : Option ℕ) (r : Bool) → o ≡ within_limit h → is_some o ≡ not r → (r ≡ true → statement_limit < h) × (statement_limit < h → r ≡ true)
+tells : (h : ℕ) (o : Option ℕ) (r : Bool) → o ≡ within_limit h → is_some o ≡ not r → (r ≡ true → STATEMENT_LIMIT < h) × (STATEMENT_LIMIT < h → r ≡ true)
 tells h None r kept told =
-    elim (cases_lt statement_limit h) [
+    elim (cases_lt STATEMENT_LIMIT h) [
       | inl past ↦ (λ t. past, λ p. by_none r told)
       | inr low ↦ absurd (let some = near h low in cc)
     ]
 tells h (Some x) r kept told =
-    elim (cases_lt statement_limit h) [
+    elim (cases_lt STATEMENT_LIMIT h) [
       | inl past ↦ absurd (let none = far h past in cc)
       | inr low ↦ (λ t. absurd (by_some r told t), λ p. absurd (omega (arith, p, low)))
     ]

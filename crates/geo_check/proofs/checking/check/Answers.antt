@@ -1,4 +1,4 @@
-use Rattle.std.proofs.Common.{rules, ◌≡◌, ◌∙◌, sym, true, None, Some}
+use Rattle.std.proofs.Common.{rules, ◌≡◌, ◌∙◌, true, None, Some}
 use Rattle.geo_sketch.specs.Posing.{is_posed}
 use Rattle.geo_sketch.specs.Rebuilding.{rebuilt}
 use Rattle.geo_check.specs.Faults.{finding_fault}

@@ -1,14 +1,14 @@
-use Rattle.std.proofs.Common.{rules, ◌≡◌, ◌∙◌, ◌*◌, ◌≤◌, sym, ap, subst, le_trans, true, false, None, List, ℕ}
+use Rattle.std.proofs.Common.{◌≡◌, ◌∙◌, ◌≤◌, sym, ap, subst, le_trans, true, false, None}
 use Rattle.std.specs.Prelude.{is_none, not, nat_lt, unsigned_abs}
 use Rattle.geo_sketch.specs.Assignments.{assignment_of, magnitudes}
 use Rattle.geo_sketch.specs.Heights.{statement_height}
-use Rattle.geo_sketch.specs.Sketches.{number_limit}
 use Rattle.geo_sketch.specs.Statements.{parts_at}
 use Rattle.geo_sketch.proofs.SketchLaws.{constructed}
 use Rattle.geo_height.specs.Bounds.{magnitude_of}
-use Rattle.geo_height.specs.Capped.{statement_limit, within_limit}
+use Rattle.geo_height.specs.Capped.{within_limit}
+use Rattle.geo_triple.specs.declared.limits.TheConstants.{STATEMENT_LIMIT}
 use Rattle.geo_height.proofs.HeightLaws.{statement_height_grows}
-use Rattle.geo_degree.specs.VerdictFunction.{are_zero}
+use Rattle.geo_triple.specs.Zero.{are_zero}
 use Rattle.geo_check.specs.Faults.{unless}
 use Rattle.geo_check.specs.Grids.{sizes_of_values}
 use Rattle.geo_check.specs.Instances.{assigned}
@@ -43,7 +43,7 @@ returns-then-is_zero_at c =
     let fits : is_none (within_limit (statement_height c.args.sketch.now.elements c.args.claim.now (magnitude_of (sizes_of_values c.args.stated.now)))) ≡ false
     = ap (λ ms. is_none (within_limit (statement_height es s (magnitude_of ms)))) (sym size) ∙ ap is_none (sym c.of_statement.ensures) ∙ none_is c.of_statement.result c.is_none.result c.is_none.ensures ∙ c.if-is_none.false in
     let zero : are_zero (parts_at es s (assignment_of stated)) ≡ true = ap (λ f. are_zero (parts_at es s f)) (sym same) ∙ sym c.is_zero_at.ensures ∙ c.if-is_zero_at.true in
-    sym (unless_passed (not (nat_lt statement_limit h)) 7 (unless (not (are_zero (parts_at es s (assignment_of stated)))) 8 None) (low h fits).0 ∙ unless_failed (not (are_zero (parts_at es s (assignment_of stated)))) 8 None (ap not zero))
+    sym (unless_passed (not (nat_lt STATEMENT_LIMIT h)) 7 (unless (not (are_zero (parts_at es s (assignment_of stated)))) 8 None) (low h fits).0 ∙ unless_failed (not (are_zero (parts_at es s (assignment_of stated)))) 8 None (ap not zero))
 
 pub returns : goal.returns
 returns c =
@@ -56,4 +56,4 @@ returns c =
     let fits : is_none (within_limit (statement_height c.args.sketch.now.elements c.args.claim.now (magnitude_of (sizes_of_values c.args.stated.now)))) ≡ false
     = ap (λ ms. is_none (within_limit (statement_height es s (magnitude_of ms)))) (sym size) ∙ ap is_none (sym c.of_statement.ensures) ∙ none_is c.of_statement.result c.is_none.result c.is_none.ensures ∙ c.if-is_none.false in
     let zero : are_zero (parts_at es s (assignment_of stated)) ≡ false = ap (λ f. are_zero (parts_at es s f)) (sym same) ∙ sym c.is_zero_at.ensures ∙ c.if-is_zero_at.false in
-    sym (unless_passed (not (nat_lt statement_limit h)) 7 (unless (not (are_zero (parts_at es s (assignment_of stated)))) 8 None) (low h fits).0 ∙ unless_passed (not (are_zero (parts_at es s (assignment_of stated)))) 8 None (ap not zero))
+    sym (unless_passed (not (nat_lt STATEMENT_LIMIT h)) 7 (unless (not (are_zero (parts_at es s (assignment_of stated)))) 8 None) (low h fits).0 ∙ unless_passed (not (are_zero (parts_at es s (assignment_of stated)))) 8 None (ap not zero))

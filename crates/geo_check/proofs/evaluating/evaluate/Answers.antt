@@ -1,4 +1,4 @@
-use Rattle.std.proofs.Common.{rules, ◌≡◌, ◌∙◌, ◌<◌, ◌+◌, sym, subst, ap, Bool, true, false, List, length, get_or, set, length-set, arith}
+use Rattle.std.proofs.Common.{◌∙◌, ◌+◌, sym, subst, ap, false, set, length-set, arith}
 use Rattle.geo_triple.specs.declared.Triple.{Triple}
 use Rattle.geo_sketch.specs.Needs.{needs}
 use Rattle.geo_check.specs.Instances.{assigned}

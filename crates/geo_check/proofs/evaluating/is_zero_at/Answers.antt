@@ -1,5 +1,5 @@
 use Rattle.std.proofs.Common.{◌∙◌, ap, length}
-use Rattle.geo_degree.specs.VerdictFunction.{are_zero}
+use Rattle.geo_triple.specs.Zero.{are_zero}
 use Rattle.geo_check.specs.Instances.{assigned}
 use Rattle.geo_check.proofs.EvaluationLaws.{parts_known, stated_low, sum_low}
 use Rattle.geo_check.proofs.evaluating.is_zero_at.Goals as goal

@@ -1,9 +1,13 @@
-use Rattle.std.proofs.Common.{◌≡◌, ◌*◌, ◌<◌, ◌≤◌, ◌+◌, sym, subst, drop, ℕ}
-use Rattle.geo_degree.specs.Questions.{size_limit}
+use Rattle.std.proofs.Common.{◌≡◌, ◌*◌, ◌<◌, ◌≤◌, ◌+◌, sym, subst, drop, ℕ, arith}
 use Rattle.geo_check.specs.Entries.{entry_shown}
 use Rattle.geo_check.specs.Grids.{size_of}
 use Rattle.geo_check.proofs.SizeLaws.{grown, grown_some, too_large, too_many}
+use Rattle.geo_check.proofs.ValueLaws.{never_gone}
 use Rattle.geo_check.proofs.grids.is_small.Goals as goal
+use Rattle.geo_degree.specs.declared.limits.TheConstants.{SIZE_LIMIT}
+
+pub returns-in_default : goal.returns-in_default
+returns-in_default c = never_gone c.args.grid.now c.loop-k.k (omega (arith, c.loop-k-test.true, c.len-k-end.ensures)) c.in_default.ensures.entry
 
 pub returns-in_default-count_points : goal.returns-in_default-count_points
 returns-in_default-count_points c =
@@ -14,7 +18,7 @@ pub returns-then-size-gt-SIZE_LIMIT : goal.returns-then-size-gt-SIZE_LIMIT
 returns-then-size-gt-SIZE_LIMIT c =
     let inv = c.loop-k.invariant in
     let g = entry_shown c.in-Some.entry in
-    sym (too_many c.args.grid.now c.requires c.loop-k.size c.loop-k.k g inv.some inv.all c.in-Some.ensures.entry (subst (λ (n : ℕ). size_limit < c.loop-k.size * n) c.in-Some-count_points.ensures.0 c.if-size-gt-SIZE_LIMIT.true))
+    sym (too_many c.args.grid.now c.requires c.loop-k.size c.loop-k.k g inv.some inv.all c.in-Some.ensures.entry (subst (λ (n : ℕ). SIZE_LIMIT < c.loop-k.size * n) c.in-Some-count_points.ensures.0 c.if-size-gt-SIZE_LIMIT.true))
 
 pub loop-k-preserved : goal.loop-k-preserved
 loop-k-preserved c =

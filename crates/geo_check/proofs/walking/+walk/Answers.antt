@@ -1,4 +1,4 @@
-use Rattle.std.proofs.Common.{rules, ◌≡◌, ◌∙◌, ◌<◌, ◌≤◌, ◌+◌, ◌-◌, sym, ap, subst, true, false, ℤ, pos, List, length, get_or, set, take, drop, arith}
+use Rattle.std.proofs.Common.{rules, ◌≡◌, ◌∙◌, ◌≤◌, ◌-◌, sym, ap, subst, true, false, ℤ, pos, length, get_or, set, take, drop, arith}
 use Rattle.std.specs.Prelude.{unsigned_abs}
 use Rattle.std.specs.List.{list_all, AllByRecursion}
 use Rattle.geo_degree.specs.Polynomials.{with_value}
@@ -7,12 +7,16 @@ use Rattle.geo_check.specs.Grids.{magnitudes_in}
 use Rattle.geo_check.specs.Instances.{assigned, is_zero_on, on_triangle}
 use Rattle.geo_check.specs.Positions.{IsModest, IsPosition}
 use Rattle.geo_check.proofs.PositionLaws.{all_go_on, all_stop, assigned_there, bound_taken, others_next, position_low, position_set, restored, triangle_go_on, triangle_stop, value_bound}
+use Rattle.geo_check.proofs.ValueLaws.{never_gone}
 use Rattle.geo_check.proofs.walking.+walk.Goals as goal
 
 pub is_zero_from-is_zero_at-requires-clause-low : goal.is_zero_from-is_zero_at-requires-clause-low
 is_zero_from-is_zero_at-requires-clause-low t c =
     let claim = c.args.claim.now in
     position_low claim.sketch.now c.requires.ready.drawn claim.statement.now c.args.grid.now c.args.values.now c.requires.walkable c.requires.position
+
+pub is_zero_from-returns-in-None-clause-zero : goal.is_zero_from-returns-in-None-clause-zero
+is_zero_from-returns-in-None-clause-zero t c = never_gone c.args.grid.now c.args.k (omega (arith, c.if-k-len.false, c.len.ensures)) c.in-None.ensures.entry
 
 -- ---- along a list
 pub is_zero_along-returns-then-not-is_zero_from-clause-zero : goal.is_zero_along-returns-then-not-is_zero_from-clause-zero

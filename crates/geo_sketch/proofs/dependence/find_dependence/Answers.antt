@@ -10,4 +10,4 @@ loop-i-preserved c =
     rw (c.depends_by.ensures, add-one) (rw (← c.index-elements-i.is) at more)
 
 pub returns : goal.returns
-returns c = c.seen_at.ensures ∙ c.loop-i.invariant c.args.n c.requires.live.0 c.requires.live.1 (omega (arith, c.loop-i-test.false, place_within c.args.elements.now c.args.n c.requires.live.0 c.requires.live.1))
+returns c = c.entry_at.ensures ∙ c.loop-i.invariant c.args.n c.requires.live.0 c.requires.live.1 (omega (arith, c.loop-i-test.false, place_within c.args.elements.now c.args.n c.requires.live.0 c.requires.live.1))

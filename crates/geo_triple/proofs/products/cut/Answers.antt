@@ -1,6 +1,7 @@
-use Rattle.std.proofs.Common.{◌^◌, rules, unsigned_abs}
+use Rattle.std.proofs.Common.{rules, unsigned_abs}
 use Rattle.std.specs.Int.{w128}
 use Rattle.std.proofs.lemmas.Int.{to_z-of_z}
+use Rattle.geo_triple.specs.declared.limits.TheConstants.{STATEMENT_LIMIT}
 use Rattle.geo_triple.specs.Sums.{sizes_of}
 use Rattle.geo_triple.proofs.Sums.{cut_first, cut_second, cut_third}
 use Rattle.geo_triple.proofs.Readings.{all_read, cut_read, in_128, turned_fits, turned_product_fits, widened}
@@ -16,7 +17,7 @@ overflow_sub-result c =
     let s = c.args.s.now in
     turned_product_fits
     w128
-    (2 ^ 126)
+    STATEMENT_LIMIT
     in_128
     c.from-by.result
     s.b
@@ -37,7 +38,7 @@ overflow_sub-result-2 c =
     let s = c.args.s.now in
     turned_fits
     w128
-    (2 ^ 126)
+    STATEMENT_LIMIT
     in_128
     c.from-by.result
     s.b
@@ -55,7 +56,7 @@ returns c =
     let last_small = cut_third (sizes_of s) (unsigned_abs c.args.by) _ c.requires in
     cut_read
     w128
-    (2 ^ 126)
+    STATEMENT_LIMIT
     in_128
     s
     k
@@ -64,6 +65,6 @@ returns c =
     product_small
     c.product.ensures
     c.plus_product.ensures
-    (to_z-of_z w128 _ (turned_product_fits w128 (2 ^ 126) in_128 k s.b by_is b_is product_small c.product.ensures))
+    (to_z-of_z w128 _ (turned_product_fits w128 STATEMENT_LIMIT in_128 k s.b by_is b_is product_small c.product.ensures))
     (to_z-of_z w128 c.plus_product.result (search rules))
-    (to_z-of_z w128 _ (turned_fits w128 (2 ^ 126) in_128 k s.b by_is b_is last_small))
+    (to_z-of_z w128 _ (turned_fits w128 STATEMENT_LIMIT in_128 k s.b by_is b_is last_small))

@@ -1,8 +1,8 @@
-use Rattle.std.proofs.Common.{◌^◌}
 use Rattle.std.specs.Int.{w128}
+use Rattle.geo_triple.specs.declared.limits.TheConstants.{STATEMENT_LIMIT}
 use Rattle.geo_triple.proofs.Readings.{in_128, three_products_read}
 use Rattle.geo_triple.proofs.products.sum_of_products.Goals as goal
 
 pub plus_product-requires-2 : goal.plus_product-requires-2
 plus_product-requires-2 c =
-    let r = c.ranges in three_products_read w128 (2 ^ 126) in_128 r.p r.q r.r r.s r.u r.v c.requires c.product.ensures c.plus_product.ensures
+    let r = c.ranges in three_products_read w128 STATEMENT_LIMIT in_128 r.p r.q r.r r.s r.u r.v c.requires c.product.ensures c.plus_product.ensures

@@ -1,4 +1,5 @@
-use Rattle.std.proofs.Common.{◌≤◌, ◌^◌, rules}
+use Rattle.std.proofs.Common.{◌≤◌, rules}
+use Rattle.geo_triple.specs.declared.limits.TheConstants.{STATEMENT_LIMIT}
 use Rattle.geo_triple.proofs.Divisors.{gcd-bound}
 use Rattle.geo_triple.proofs.Readings.{abs_small, divisor_read}
 use Rattle.geo_triple.proofs.reduction.divisor.Goals as goal
@@ -8,7 +9,7 @@ with_sign_of-requires c =
     let first = abs_small c.args.a c.unsigned_abs.ensures.value c.requires.a_small in
     let second = abs_small c.args.b c.unsigned_abs-2.ensures.value c.requires.b_small in
     let third = abs_small c.args.c c.unsigned_abs-3.ensures.value c.requires.c_small in
-    let both : c.gcd.result ≤ 2 ^ 126 = rw c.gcd.ensures (gcd-bound first second) in
+    let both : c.gcd.result ≤ STATEMENT_LIMIT = rw c.gcd.ensures (gcd-bound first second) in
     rw c.gcd-size.ensures (gcd-bound both third)
 
 pub returns : goal.returns

@@ -3,7 +3,8 @@ use Rattle.geo_sketch.specs.declared.elements.Element.{Element}
 use Rattle.geo_sketch.specs.declared.elements.Def.TheVariants.{Free}
 use Rattle.geo_degree.specs.Blocks.{own_blocks}
 use Rattle.geo_bracket.specs.Expressions.{expression_degree}
-use Rattle.geo_degree.specs.Grids.{axes_among, own_parameters}
+use Rattle.geo_degree.specs.Grids.{axes_among}
+use Rattle.geo_sketch.specs.Assignments.{own_parameters}
 use Rattle.geo_bracket.proofs.FoundAxes.{axes_end, axes_step, blocks_end, blocks_step, number_low, same_degrees}
 use Rattle.geo_bracket.proofs.posed.axes.find_axes.Goals as goal
 

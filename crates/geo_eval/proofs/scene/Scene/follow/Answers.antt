@@ -31,14 +31,14 @@ loop-i-preserved g c =
     let x = c.index-elements-i.result in
     let within = rw c.requires.elements at c.loop-i-test.true in
     let same = rw c.requires.elements at c.index-elements-i.is in
-    let is = rw c.requires.elements at c.is_moved-moves.ensures in
+    let is = rw c.requires.elements at c.depends_by-moves.ensures in
     let before = before_of drawing (Dragged on c.args.from c.args.to) c.args.forward in
     let both = dragged_moved drawing on c.args.from c.args.to c.args.forward c.requires.drawn c.requires.leads in
     let followed = c.loop-i.invariant.followed in
     let there = is_there drawing.elements i x c.requires.drawn.rising within same in
-    let more = follow_more before drawing on both c.loop-i.moved c.loop-i.self i x within same followed c.is_moved-moves.result is (omega (arith, within, c.requires.drawn.elements_room, c.index-elements-i.array_long)) (omega (arith, c.requires.drawn.given x.number x there.0, followed.given)) in
+    let more = follow_more before drawing on both c.loop-i.moved c.loop-i.self i x within same followed c.depends_by-moves.result is (omega (arith, within, c.requires.drawn.elements_room, c.index-elements-i.array_long)) (omega (arith, c.requires.drawn.given x.number x there.0, followed.given)) in
     let moves = is ∙ moves_here before drawing on both c.loop-i.moved c.loop-i.self i x within same followed in
-    let counted = count_more (λ (e : Element). depends_on drawing.elements e.number on) drawing.elements i x c.is_moved-moves.result within (moves ∙ ap (λ (e : Element). depends_on drawing.elements e.number on) same) in
+    let counted = count_more (λ (e : Element). depends_on drawing.elements e.number on) drawing.elements i x c.depends_by-moves.result within (moves ∙ ap (λ (e : Element). depends_on drawing.elements e.number on) same) in
     record {
       followed = rw c.renew.ensures.slots more;
       ticks = omega (arith, c.renew.ensures.tick, c.loop-i.invariant.ticks, counted);

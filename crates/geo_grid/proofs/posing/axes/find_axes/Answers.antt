@@ -1,7 +1,8 @@
 use Rattle.std.proofs.Common.{rules, ◌≡◌, ◌<◌, ◌++◌, ◌∙◌, ap, sym, length, get_or}
 use Rattle.geo_degree.specs.Blocks.{own_blocks}
 use Rattle.geo_degree.specs.Degrees.{statement_degree}
-use Rattle.geo_degree.specs.Grids.{axes_among, own_parameters}
+use Rattle.geo_degree.specs.Grids.{axes_among}
+use Rattle.geo_sketch.specs.Assignments.{own_parameters}
 use Rattle.geo_grid.proofs.AxisLists.{axes_more, blocks_more, number_low, same_degrees}
 use Rattle.geo_grid.proofs.posing.axes.find_axes.Goals as goal
 

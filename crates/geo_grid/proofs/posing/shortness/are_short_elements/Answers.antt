@@ -4,7 +4,7 @@ use Rattle.std.proofs.lemmas.List.{get_or_default, length-take-le}
 use Rattle.geo_sketch.specs.Heights.{height_of}
 use Rattle.geo_height.specs.Capped.{within_limit}
 use Rattle.geo_degree.specs.Grids.{at_axes, axis_magnitude}
-use Rattle.geo_grid.specs.Nodes.{short_limit}
+use Rattle.geo_triple.specs.declared.limits.TheConstants.{SHORT_LIMIT}
 use Rattle.geo_grid.proofs.PairLaws.{height_of_paired}
 use Rattle.geo_grid.proofs.posing.shortness.are_short_elements.Goals as goal
 
@@ -18,7 +18,7 @@ loop-n-preserved c k d early =
     let ms = map axis_magnitude axes in
     let n = get_or c.args.named.now c.loop-n.n-index 0 in
     let value = rw c.pair_on_grid-pairs.ensures.pairs at c.height.ensures in
-    let low : height_of es n (at_axes 0 axes ms) ≤ short_limit = (c.is_short.ensures (height_of es n (at_axes 0 axes ms)) (value ∙ ap within_limit (height_of_paired es n axes ms))).0 c.if-not-is_short.false in
+    let low : height_of es n (at_axes 0 axes ms) ≤ SHORT_LIMIT = (c.is_short.ensures (height_of es n (at_axes 0 axes ms)) (value ∙ ap within_limit (height_of_paired es n axes ms))).0 c.if-not-is_short.false in
     elim (cases_eq k c.loop-n.n-index) [
       | inl here ↦ rw (here, get_or_default c.args.named.now c.loop-n.n-index d 0 c.loop-n-test.true) low
       | inr apart ↦ c.loop-n.invariant k d (omega arith)

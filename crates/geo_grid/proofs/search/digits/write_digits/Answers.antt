@@ -1,12 +1,12 @@
 use Rattle.std.proofs.Common.{◌∙◌, ◌/◌, ◌<◌, ap, arith, subst, sym}
 use Rattle.geo_degree.specs.declared.grids.Block.TheVariants.{One}
-use Rattle.geo_degree.specs.Questions.{size_limit}
 use Rattle.geo_grid.proofs.BlockSizes.{own_degrees_within}
 use Rattle.geo_grid.proofs.Written.{number_within, positive_behind, room_for_more, written_more}
 use Rattle.geo_grid.proofs.search.digits.write_digits.Goals as goal
+use Rattle.geo_degree.specs.declared.limits.TheConstants.{SIZE_LIMIT}
 
 pub point_count-behind-requires : goal.point_count-behind-requires
-point_count-behind-requires c = own_degrees_within c.args.blocks.now c.loop-block.block-index size_limit (One 0) c.loop-block-test.true (omega (arith, c.requires.size, c.requires.small))
+point_count-behind-requires c = own_degrees_within c.args.blocks.now c.loop-block.block-index SIZE_LIMIT (One 0) c.loop-block-test.true (omega (arith, c.requires.size, c.requires.small))
 
 pub nonzero_div-rest : goal.nonzero_div-rest
 nonzero_div-rest c = subst (λ n. 0 < c.loop-block.behind / n) (sym c.point_count-behind.ensures) (positive_behind c.args.blocks.now c.loop-block.block-index c.loop-block.behind (One 0) c.loop-block-test.true c.loop-block.invariant.size)

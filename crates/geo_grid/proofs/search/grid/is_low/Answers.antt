@@ -3,10 +3,10 @@ use Rattle.std.proofs.lemmas.List.{length-take-le}
 use Rattle.std.specs.List.{All}
 use Rattle.geo_degree.specs.declared.grids.Axis.{Axis}
 use Rattle.geo_degree.specs.Grids.{axis_magnitude}
-use Rattle.geo_degree.specs.Questions.{size_limit}
 use Rattle.geo_degree.proofs.QuestionLaws.{axes_are_few}
 use Rattle.geo_grid.proofs.FormPoints.{low_magnitudes, small_degrees}
 use Rattle.geo_grid.proofs.search.grid.is_low.Goals as goal
+use Rattle.geo_degree.specs.declared.limits.TheConstants.{SIZE_LIMIT}
 
 pub slice_bounds-magnitudes-end : goal.slice_bounds-magnitudes-end
 slice_bounds-magnitudes-end g c =
@@ -30,7 +30,7 @@ pub write_magnitudes-requires-clause-small : goal.write_magnitudes-requires-clau
 write_magnitudes-requires-clause-small g c =
     let q = g.F.Form.question c.args.form.now in
     let f = g.met.F.Form.is_form c.args.form.now in
-    subst (λ (axes : List Axis). All (λ (a : Axis). a.degree ≤ size_limit) axes) (sym c.axes-axes.ensures) (small_degrees q f c.requires)
+    subst (λ (axes : List Axis). All (λ (a : Axis). a.degree ≤ SIZE_LIMIT) axes) (sym c.axes-axes.ensures) (small_degrees q f c.requires)
 
 pub height-requires-clause-low : goal.height-requires-clause-low
 height-requires-clause-low g c =

@@ -2,7 +2,7 @@ use Rattle.std.proofs.Common.{◌≡◌, ◌∙◌, max, unsigned_abs, Some, ari
 use Rattle.std.proofs.lemmas.Int.{to_z-of_z}
 use Rattle.geo_triple.specs.Sums.{of_sizes}
 use Rattle.geo_triple.proofs.Sums.{largest_bound}
-use Rattle.geo_height.specs.Capped.{statement_limit}
+use Rattle.geo_triple.specs.declared.limits.TheConstants.{STATEMENT_LIMIT}
 use Rattle.geo_height.proofs.CappedLaws.{all_near}
 use Rattle.geo_height.proofs.heights.Heights.of_fixed.Goals as goal
 
@@ -15,4 +15,4 @@ returns c =
     let b : max 1 (unsigned_abs c.args.b) ≡ c.from-2.result = omega arith in
     let d : max 1 (unsigned_abs c.args.c) ≡ c.from-3.result = omega arith in
     let g = of_sizes (max 1 (unsigned_abs c.args.a)) (max 1 (unsigned_abs c.args.b)) (max 1 (unsigned_abs c.args.c)) in
-    all_near g (largest_bound g statement_limit (omega arith) (omega arith) (omega arith)) ∙ (λ i. Some record { a = a i; b = b i; c = d i })
+    all_near g (largest_bound g STATEMENT_LIMIT (omega arith) (omega arith) (omega arith)) ∙ (λ i. Some record { a = a i; b = b i; c = d i })

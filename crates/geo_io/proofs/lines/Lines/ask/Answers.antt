@@ -7,8 +7,8 @@ invariant_of-self g c =
     let held : c.args.self.now.held ≡ c.self.inside.begun.items ++ c.self.inside.buffer = search rules in
     begun_kept _ _ _ _ held c.requires.no_line (search rules)
 
-pub invariant_of-self-then-self-gt-MOST_BYTES : goal.invariant_of-self-then-self-gt-MOST_BYTES
-invariant_of-self-then-self-gt-MOST_BYTES g c =
+pub invariant_of-self-then-self-gt-INPUT_LIMIT : goal.invariant_of-self-then-self-gt-INPUT_LIMIT
+invariant_of-self-then-self-gt-INPUT_LIMIT g c =
     let held : c.args.self.now.held ≡ c.self.inside.begun.items ++ c.self.inside.buffer = search rules in
     begun_kept _ _ _ _ held c.requires.no_line (search rules)
 

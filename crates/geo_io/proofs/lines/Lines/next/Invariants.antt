@@ -1,4 +1,4 @@
-use Rattle.std.proofs.Common.{◌≡◌, ◌+◌, ◌-◌, ◌^◌, ◌≤◌, ◌⊎◌, true, false, cond}
+use Rattle.std.proofs.Common.{◌≡◌, ◌+◌, ◌-◌, ◌^◌, ◌≤◌, ◌⊎◌, true, cond}
 use Rattle.geo_io.specs.Lines.{has_line_feed}
 use Rattle.geo_io.proofs.NextLines.{Asked}
 use Rattle.geo_io.proofs.lines.Lines.next.Given as goal

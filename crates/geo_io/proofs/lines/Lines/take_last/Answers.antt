@@ -1,4 +1,4 @@
-use Rattle.std.proofs.Common.{rules, arith, ◌≡◌, ◌+◌, ◌++◌, ◌∷◌, ◌<◌, [], take, length}
+use Rattle.std.proofs.Common.{rules, arith, ◌≡◌, ◌+◌, ◌++◌, ◌<◌, [], take, length}
 use Rattle.std.proofs.lemmas.Grind.{common_steps}
 use Rattle.geo_io.proofs.HeldLines.{last_given}
 use Rattle.geo_io.proofs.lines.Lines.take_last.Goals as goal

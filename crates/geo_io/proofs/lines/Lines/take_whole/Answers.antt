@@ -1,6 +1,6 @@
-use Rattle.std.proofs.Common.{rules, ◌≡◌, ◌+◌, ◌++◌, ◌∷◌, ◌∙◌, ap, [], List, ℕ, min, take, drop, length, Some, None}
+use Rattle.std.proofs.Common.{rules, ◌≡◌, ◌+◌, ◌++◌, [], min, take, drop, length, Some, None}
 use Rattle.std.specs.List.{position}
-use Rattle.geo_io.specs.Lines.{without_carriage_return, cut_lines_of, has_line_feed}
+use Rattle.geo_io.specs.Lines.{without_carriage_return}
 use Rattle.geo_io.proofs.LineFeeds.{is_line_feed}
 use Rattle.geo_io.proofs.HeldLines.{no_whole_line, a_whole_line, line_given}
 use Rattle.geo_io.proofs.lines.Lines.take_whole.Goals as goal

@@ -17,7 +17,7 @@ evaluate_node-triple-requires-clause-low g c =
     let plan = seen_plan c.self.view_is c.self.invariant in
     let here : c.index.result.now ≡ get_or c.self.inside.nodes.items c.loop-i.i c.index.result.now = search rules in
     let within : c.loop-i.i < length c.self.inside.nodes.items = search rules in
-    run_small plan c.args.values.now c.requires.count c.loop-i.triples c.loop-i.i c.index.result.now here within c.loop-i.invariant.before g.A.Lane.limit c.requires.low
+    run_small plan c.args.values.now c.requires.count c.loop-i.triples c.loop-i.i c.index.result.now here within c.loop-i.invariant.before g.W.Width.limit c.requires.low
 
 pub bounds-triples-i : goal.bounds-triples-i
 bounds-triples-i g c =

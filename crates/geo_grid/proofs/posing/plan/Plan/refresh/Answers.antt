@@ -1,6 +1,7 @@
 use Rattle.std.proofs.Common.{◌∙◌, ap, arith, length, inl, inr, pos}
 use Rattle.std.proofs.lemmas.List.{with_items_is}
-use Rattle.geo_grid.specs.Nodes.{short_limit, triple_there}
+use Rattle.geo_grid.specs.Nodes.{triple_there}
+use Rattle.geo_triple.specs.declared.limits.TheConstants.{SHORT_LIMIT}
 use Rattle.geo_grid.proofs.LaneLaws.{low_on_grid}
 use Rattle.geo_grid.proofs.StartLaws.{goes_on, new_mark, new_room, one_number, one_triple_each, stands_before, start_counted, start_within}
 use Rattle.geo_grid.proofs.posing.plan.Plan.refresh.Goals as goal
@@ -16,7 +17,7 @@ evaluate-requires-clause-low g c =
     let p = c.args.self.now in
     let begin = c.begin-from in
     let grid = goes_on p c.args.work.now c.args.values.now c.args.first c.requires.work c.index-mark.result.now c.index-mark.ensures begin.result.0 (λ t. ap (λ b. b.0) (begin.ensures.fresh t)) (λ t. ap (λ b. b.0) (begin.ensures.used t)) (c.takes_lane.ensures.narrow c.if-takes_lane.true) (c.takes_lane.ensures.on_grid c.if-takes_lane.true) in
-    low_on_grid p begin.ensures.drawn short_limit c.args.values.now c.requires.count (c.takes_lane.ensures.low c.if-takes_lane.true) grid
+    low_on_grid p begin.ensures.drawn SHORT_LIMIT c.args.values.now c.requires.count (c.takes_lane.ensures.low c.if-takes_lane.true) grid
 
 pub evaluate-requires-clause-within : goal.evaluate-requires-clause-within
 evaluate-requires-clause-within g c =

@@ -4,7 +4,7 @@ use Rattle.geo_sketch.specs.Lookups.{IsLive}
 use Rattle.geo_sketch.specs.Sketches.{Drawing, IsDrawn}
 use Rattle.geo_degree.specs.Grids.{axis_magnitude}
 use Rattle.geo_degree.proofs.FormLaws.{posed_live}
-use Rattle.geo_grid.specs.Nodes.{short_limit}
+use Rattle.geo_triple.specs.declared.limits.TheConstants.{SHORT_LIMIT}
 use Rattle.geo_grid.specs.Plans.{Planned, moved_count, planned_for}
 use Rattle.geo_grid.proofs.ConditionLaws.{planned_is, statement_asks, statement_low}
 use Rattle.geo_grid.proofs.NamedLaws.{to_list}
@@ -41,7 +41,7 @@ with_lane-requires-clause-short c t =
     let live : All (IsLive sketch.elements) c.in_ok-named.named.items = rw c.in_ok-named.ensures (to_list (IsLive sketch.elements) s (posed_live sketch.elements s c.requires)) in
     let planned : p ≡ planned_for sketch s = planned_is sketch s p c.in_ok-named.named.items c.in_ok-found.found.axes.items refl c.in_ok-named.ensures c.in_ok-found.ensures.axes in
     elim c.if-is_short.branch [
-      | then-is_short w ↦ statement_low p s c.in_ok-found.ensures.drawn live planned short_limit (map axis_magnitude c.in_ok-found.found.axes.items) (rw c.deref.ensures.value at (c.is_short_statement-is_short.ensures.0 w.if-is_short.true))
+      | then-is_short w ↦ statement_low p s c.in_ok-found.ensures.drawn live planned SHORT_LIMIT (map axis_magnitude c.in_ok-found.found.axes.items) (rw c.deref.ensures.value at (c.is_short_statement-is_short.ensures.0 w.if-is_short.true))
       | else-is_short w ↦ rw (w.deref-else-is_short.ensures.value, w.deref-else-is_short-2.ensures.value) at (w.are_short_elements-are_short.ensures.0 (sym w.are_short-is ∙ t))
     ]
 

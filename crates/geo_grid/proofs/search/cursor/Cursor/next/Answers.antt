@@ -1,5 +1,5 @@
 use Rattle.std.proofs.Common.{◌≡◌, ◌∙◌, ◌+◌, ◌<◌, ◌≤◌, List, ℤ, ap, inr, length, map, rules, subst, sym, true, unsigned_abs}
-use Rattle.geo_height.specs.Capped.{statement_limit}
+use Rattle.geo_triple.specs.declared.limits.TheConstants.{STATEMENT_LIMIT}
 use Rattle.geo_degree.specs.Grids.{grid_size}
 use Rattle.geo_degree.specs.Questions.{grid_of, point}
 use Rattle.geo_grid.specs.Values.{AgreeBefore, first_change}
@@ -22,7 +22,7 @@ refresh-requires-clause-low g c =
     let next = c.self.inside.place.1 + 1 in
     let within : c.self.inside.place.1 + 1 < grid_size (grid_of (g.F.Form.question c.self.inside.form.now)) = search rules in
     let values : c.values.result.now ≡ point (g.F.Form.question c.self.inside.form.now) (c.self.inside.place.1 + 1) = search rules in
-    subst (λ (xs : List ℤ). (g.F.Form.question c.self.inside.form.now).height_at (map unsigned_abs xs) ≤ statement_limit) (sym values) (height_within q next (g.met.F.Form.is_form c.self.inside.form.now) c.self.invariant.1 within)
+    subst (λ (xs : List ℤ). (g.F.Form.question c.self.inside.form.now).height_at (map unsigned_abs xs) ≤ STATEMENT_LIMIT) (sym values) (height_within q next (g.met.F.Form.is_form c.self.inside.form.now) c.self.invariant.1 within)
 
 pub refresh-requires-clause-work : goal.refresh-requires-clause-work
 refresh-requires-clause-work g c =

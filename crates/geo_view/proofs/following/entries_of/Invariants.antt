@@ -1,7 +1,0 @@
-use Rattle.std.proofs.Common.{◌≡◌, map, take}
-use Rattle.geo_eval.specs.Shown.{shown}
-use Rattle.geo_view.specs.Following.{entry_of}
-use Rattle.geo_view.proofs.following.entries_of.Given as goal
-
-abbrev pub invariant-loop-element : goal.invariant-loop-element
-invariant-loop-element l = l.list.items ≡ map entry_of (map (shown l.fn.sketch) (take l.element-index l.fn.sketch.elements))
